@@ -1,0 +1,5 @@
+pub mod Reading
+pub mod KeepsStore
+pub mod KeepsGlyphs
+pub mod ShortestRows
+pub mod FewestInnerBits

@@ -1,0 +1,1 @@
+// Laws of the rules, which the code's proofs and the theorems both cite. No code.

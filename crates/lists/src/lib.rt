@@ -1,0 +1,1 @@
+// Lists: the words that the definitions are written in, and the laws that the proofs cite. No code.
