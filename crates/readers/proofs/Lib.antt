@@ -1,0 +1,5 @@
+pub mod Fits
+pub mod Subtables
+pub mod Maps
+pub mod Answers
+pub mod Agree
