@@ -1,0 +1,5 @@
+pub mod LaidMap
+pub mod LaidTable
+pub mod Cut
+pub mod Short
+pub mod Written
