@@ -1,0 +1,9 @@
+pub mod Areas
+pub mod Classes
+pub mod Placing
+pub mod Marking
+pub mod Plans
+pub mod Fits
+pub mod Lows
+pub mod Writing
+pub mod Subtables

@@ -1,0 +1,4 @@
+pub mod Area
+pub mod Planned
+pub mod Place
+pub mod Written
