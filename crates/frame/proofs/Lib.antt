@@ -1,0 +1,3 @@
+pub mod MapPlans
+pub mod Offsets
+pub mod Heads

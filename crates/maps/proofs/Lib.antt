@@ -1,0 +1,5 @@
+pub mod Counts
+pub mod Most
+pub mod Ahead
+pub mod Plans
+pub mod Bytes

@@ -1,0 +1,10 @@
+pub mod Ids
+pub mod Pairs
+pub mod Marks
+pub mod Fresh
+pub mod Grown
+pub mod Starts
+pub mod Ordered
+pub mod Collecting
+pub mod Renumber
+pub mod Kept

@@ -1,0 +1,3 @@
+pub mod Laying
+pub mod Stores
+pub mod Chain
