@@ -1,0 +1,5 @@
+//! The tables that the carried text reads.
+
+pub mod hvar;
+pub mod variations;
+pub mod vvar;
