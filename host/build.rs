@@ -1,4 +1,4 @@
-//! Links the proved archive: `rt staticlib binlariat` writes it to target/staticlib of the repository.
+//! Links the proved archive: `tools/archive` writes it to target/staticlib of the repository.
 //! The variable BINLARIAT_ARCHIVE names another folder that holds a libbinlariat.a.
 
 use std::env;
@@ -14,7 +14,7 @@ fn main() {
     println!("cargo::rerun-if-changed={}", archive.display());
     if !archive.is_file() {
         println!(
-            "cargo::error={} isn't there: run `rt staticlib binlariat` in the repository first, \
+            "cargo::error={} isn't there: run tools/archive in the repository first, \
              or name the folder that holds libbinlariat.a in BINLARIAT_ARCHIVE",
             archive.display()
         );

@@ -4,7 +4,7 @@
  * answers. What a call is lent is its own while it runs: `work` and `out` overlap nothing else. An empty part may
  * come with any pointer that isn't null. Nothing is kept between calls, so calls on different memory may run at the same time.
  *
- * Link with libbinlariat.a, which `rt staticlib binlariat` writes to target/staticlib.
+ * Link with libbinlariat.a, which `tools/archive` writes to target/staticlib.
  */
 #ifndef BINLARIAT_H
 #define BINLARIAT_H
