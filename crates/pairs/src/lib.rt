@@ -1,9 +1,10 @@
 // Lists of kept pairs: whether one keeps document 01's rules, and where the pairs of one outer end.
 ghost use mathlib.Core.Path.{_≡_};
-ghost use mathlib.Core.Bool.{false};
+ghost use mathlib.Core.Bool.{true, false};
 ghost use mathlib.Core.List.{_++_};
 ghost use Prim.Native.Nat.{_≤_, _<_};
 ghost use lib.ListN.{length, getD, take, drop};
+ghost use Rattle.lists.proofs.Ascending.{Rises};
 ghost use Rattle.rules.specs.Lists.{outer, outersFall, twice, badPairs};
 ghost use Rattle.pairs.specs.Pairs.{Inners, Held, RunEnd};
 
@@ -56,13 +57,31 @@ fn stands_twice(set: &mut [u32], pairs: &[u32]) -> bool
     false
 }
 
-// 2
+// Whether each pair is above the one before it.
+fn rises(pairs: &[u32]) -> bool
+    ensures { λ r. ⌜ (r ≡ true → Rises 0 (now (pairs .entry))) ⌝ }
+{
+    let mut rises = true;
+    let mut i = 1;
+    while i < pairs.len() {
+        if pairs[i] <= pairs[i - 1] {
+            rises = false;
+        }
+        i += 1;
+    }
+    rises
+}
+
+// 2. Pairs that rise need no set: no outer falls, and none stands twice.
 pub fn bad_pairs(work: &mut [u32], pairs: &[u32]) -> bool
     requires { ⌜ length (now work) ≡ 16384 ⌝ }
     ensures { λ r. ⌜ r ≡ badPairs (now (pairs .entry)) ⌝ }
 {
     if pairs.len() > 8192 {
         return true;
+    }
+    if rises(pairs) {
+        return false;
     }
     if outers_fall(pairs) {
         return true;
