@@ -1,6 +1,7 @@
 -- The loop over the runs that writes the subtables.
 use Prim.Native.Nat.{ℕ, _+_, _-_, _<_, _≤_}
 use mathlib.Core.Path.{_≡_, refl, sym, ap, _∙_}
+use mathlib.Core.Bool.{false}
 use mathlib.Core.List.{List, [], _∷_, _++_}
 use native.Mathlib.Omega.{arith}
 use lib.ListN.{length, getD, take, drop, length-take, length-map}
@@ -9,7 +10,7 @@ use borrow.Rule.Slice.PartMut.{putMid}
 use Rattle.lists.specs.Gather.{flat}
 use Rattle.lists.proofs.Cuts.{part-same, front-same, place-same}
 use Rattle.opentype.specs.Store.{subtableAt}
-use Rattle.rules.specs.Lists.{Run, runs, outer}
+use Rattle.rules.specs.Lists.{Run, runs, outer, outersFall}
 use Rattle.rules.specs.Regions.{usedRegions}
 use Rattle.rules.specs.Rewrite.{subtableBytes}
 use Rattle.laws.specs.Inside.{regions-inside}
@@ -33,6 +34,9 @@ going-first w₀ n p l = record { same = refl; inside = omega arith; left = writ
 
 pub pairs-few : {s : List ℕ} (w₀ : List ℕ) (n : ℕ) → Passed s (take n w₀) w₀ → n ≤ 8192
 pairs-few w₀ n p = omega (arith, p .area, p .pairsFit, length-take n w₀)
+
+pub going-climb : {s w₀ : List ℕ} {n : ℕ} {w out : List ℕ} {at k next : ℕ} → Passed s (take n w₀) w₀ → Going s w₀ n w out at k next → outersFall (take n w) ≡ false
+going-climb {s} {w₀} {n} {w} p g = rw (front-same w w₀ 12288 (g .same) n (omega (arith, pairs-few w₀ n p))) (p .climb)
 
 -- the next run, and the part of the output that its subtable goes to
 pub record RunPart (s w out : List ℕ) (at end k next : ℕ) : Type 0 where

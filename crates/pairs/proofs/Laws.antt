@@ -129,6 +129,20 @@ one-more {ps} {from} {end} r e =
       ];
     }
 
+-- a later pair with the outer: as outers don't fall, all before it have it
+pub one-leap : {ps : List ℕ} {from end : ℕ} (n to : ℕ) → outersFall (take n ps) ≡ false → n ≤ length ps → OneOuter ps from end → end ≤ to → to < n
+    → outer (getD ps to 0) ≡ outer (getD ps from 0) → OneOuter ps from (to + 1)
+one-leap {ps} {from} {end} n to f h r a b e =
+    record {
+      after = omega (arith, r .after);
+      alike = λ k l g. let p = climb from k l (omega arith) in let q = climb k to (omega arith) b in omega (arith, p, q, e);
+    }
+  where
+    climb : (i k : ℕ) → i ≤ k → k < n → outer (getD ps i 0) ≤ outer (getD ps k 0)
+    climb i k l g =
+        let w = length-take-le n ps h in
+        rw (getD-take n ps i 0 (omega arith), getD-take n ps k 0 g) at (outers-climb (take n ps) f i k l (omega arith))
+
 -- ---- the first run of what is left
 
 part-of : (ps : List ℕ) (n from end : ℕ) → from ≤ end → end ≤ n → n ≤ length ps → take (end - from) (drop from (take n ps)) ≡ take (end - from) (drop from ps)

@@ -6,7 +6,7 @@ ghost use Prim.Native.Nat.{_≤_, _<_};
 ghost use lib.ListN.{length, getD, take, drop};
 ghost use Rattle.lists.proofs.Ascending.{Rises};
 ghost use Rattle.rules.specs.Lists.{outer, outersFall, twice, badPairs};
-ghost use Rattle.pairs.specs.Pairs.{Inners, Held, RunEnd};
+ghost use Rattle.pairs.specs.Pairs.{Inners, Held, OneOuter, RunEnd};
 
 fn outers_fall(pairs: &[u32]) -> bool
     ensures { λ r. ⌜ r ≡ outersFall (now (pairs .entry)) ⌝ }
@@ -100,14 +100,32 @@ pub fn copy_pairs(work: &mut [u32], pairs: &[u32])
     }
 }
 
+// A place behind `from` up to which all pairs have its outer, 8 pairs at a time: as outers don't fall, the last of 8 speaks for the others.
+fn leap(pairs: &[u32], from: usize, n: usize) -> usize
+    requires { ⌜ (n ≤ length (now pairs)) × (from < n) ⌝ }
+    requires { ⌜ outersFall (take n (now pairs)) ≡ false ⌝ }
+    ensures { λ r. ⌜ OneOuter (now (pairs .entry)) from r × (r ≤ n) ⌝ }
+{
+    let outer = pairs[from] / 65536;
+    let mut end = from + 1;
+    while end + 8 <= n {
+        if pairs[end + 7] / 65536 != outer {
+            return end;
+        }
+        end += 8;
+    }
+    end
+}
+
 // The place of the first of the n pairs, behind `from`, that has another outer; n where none has.
 pub fn end_of_run(pairs: &[u32], from: usize, n: usize) -> usize
     requires { ⌜ n ≤ length (now pairs) ⌝ }
     requires { ⌜ from < n ⌝ }
+    requires { ⌜ outersFall (take n (now pairs)) ≡ false ⌝ }
     ensures { λ r. ⌜ RunEnd (now (pairs .entry)) n from r ⌝ }
 {
     let outer = pairs[from] / 65536;
-    let mut end = from + 1;
+    let mut end = leap(pairs, from, n);
     while end < n {
         if pairs[end] / 65536 != outer {
             return end;

@@ -17,7 +17,7 @@ use Rattle.opentype.specs.Store.{regionsAt, axisCount, regionCount, recordLengt
 use Rattle.rules.specs.declared.Refusal.{Refusal}
 use Rattle.rules.specs.declared.Refusal.the-variants.{BadRegions, NothingKept, BadRegionIndex, MiddleWidth}
 use Rattle.rules.specs.Numbers.{Outcome, refused, written}
-use Rattle.rules.specs.Lists.{Run, runs}
+use Rattle.rules.specs.Lists.{Run, outersFall, runs}
 use Rattle.rules.specs.Open.{badStore, badRegions}
 use Rattle.rules.specs.Regions.{isUsed}
 use Rattle.rules.specs.StoreCut.{someDelta, badRegionIndex, middleWidth, storeBytes, storeWritten, nullStore, checkedCut, cutOpened}
@@ -62,12 +62,12 @@ module _ {s : List ℕ} {rs : List Run} {w : List ℕ} {m : Measure} (h : Whole 
 
 -- ---- the layout
 
-pub ready-of : {s : List ℕ} (pairs : List ℕ) {w : List ℕ} {m : Measure} {axes regions used list : ℕ} → length w ≡ 16384 → length pairs ≤ 8192 → badStore s ≡ false → badRegions s ≡ false
+pub ready-of : {s : List ℕ} (pairs : List ℕ) {w : List ℕ} {m : Measure} {axes regions used list : ℕ} → length w ≡ 16384 → length pairs ≤ 8192 → outersFall pairs ≡ false → badStore s ≡ false → badRegions s ≡ false
     → Whole s (runs pairs) w m → m .index ≡ false → axes ≡ axisCount s → axes ≤ 65535 → regions ≡ regionCount s → used ≡ rank (has (usedIn w)) regions → used ≤ regions
     → list ≡ 4 + used * (6 * axes) → list ≤ 1610588164
     → Ready s pairs w (record { count = m .count; regions = regions; used = used; axes = axes; length = 8 + 4 * m .count + list + m .length })
 unfolding recordLength
-ready-of {s} pairs {w} {m} {axes} {regions} {used} {list} n p b r h i ea fa er eu fu el small =
+ready-of {s} pairs {w} {m} {axes} {regions} {used} {list} n p f b r h i ea fa er eu fu el small =
     let rs = runs pairs in
     let k : used ≡ rank (λ q. isUsed s rs q) (regionCount s) = eu ∙ rw er (rank-ext (has (usedIn w)) (λ q. isUsed s rs q) (regionCount s) (λ q l. h .used q l)) in
     let c = h .count in
@@ -76,6 +76,7 @@ ready-of {s} pairs {w} {m} {axes} {regions} {used} {list} n p b r h i ea fa er e
       passed = record {
         area = n;
         pairsFit = p;
+        climb = f;
         store = b;
         list = r;
         usable = all-usable s rs [] (h .subtables (written []));

@@ -9,7 +9,7 @@ use Rattle.lists.specs.Search.{any}
 use Rattle.bits.specs.Bits.{has}
 use Rattle.opentype.specs.Store.{axisCount, regionCount}
 use Rattle.rules.specs.Numbers.{Outcome, refused, written}
-use Rattle.rules.specs.Lists.{Run, runs}
+use Rattle.rules.specs.Lists.{Run, outersFall, runs}
 use Rattle.rules.specs.Open.{badStore, badRegions}
 use Rattle.rules.specs.Regions.{isUsed}
 use Rattle.rules.specs.StoreCut.{badRegionIndex, storeBytes, nullStore, subtablesOr, checkedCut, cutOpened}
@@ -24,6 +24,7 @@ use Rattle.plan.specs.declared.Planned.the-variants.{Null, Laid, Refused
 pub record Passed (s pairs w : List ℕ) : Type 0 where
   pub area : length w ≡ 16384
   pub pairsFit : length pairs ≤ 8192
+  pub climb : outersFall pairs ≡ false
   pub store : badStore s ≡ false
   pub list : badRegions s ≡ false
   pub usable : any (λ run. unusable s run) (runs pairs) ≡ false

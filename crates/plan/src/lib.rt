@@ -86,6 +86,7 @@ fn nothing_kept(keep: bool, live: bool) -> bool
 fn lay_out(work: &[u32], s: &[u8], n: usize, m: Measure, keep: bool) -> Planned
     requires { ⌜ (length (now work) ≡ 16384) × (n ≤ 8192) ⌝ }
     requires { ⌜ (badStore (now s) ≡ false) × (badRegions (now s) ≡ false) ⌝ }
+    requires { ⌜ outersFall (take n (now work)) ≡ false ⌝ }
     requires { ⌜ Whole (now s) (runs (take n (now work))) (now work) m ⌝ }
     ensures { λ r. ⌜ PlannedAs (checkedCut (now (s .entry)) (runs (take n (now (work .entry)))) keep)
         (now (s .entry)) (take n (now (work .entry))) (now (work .entry)) r ⌝ }

@@ -21,6 +21,12 @@ abbrev μ-loop : tie.MeasureT-loop
 loop-holds : tie.Need-loop-holds Inv-loop μ-loop
 loop-holds c = let s = c .before .before in (search needs, search needs, turn-first _ _ _ (s .pre .1 .1 .1 .0))
 
+end-of-run-requires : tie.Need-end-of-run-requires Inv-loop μ-loop
+end-of-run-requires c κs =
+    let s = c .before .before .before .before .before in
+    let l = c .before .before .loop in
+    (search needs, (search needs, rw (front-same (l .work) (now (s .args .work)) 8704 (l .inv .1) (s .args .n) (omega arith)) (s .pre .1 .1 .1 .1)))
+
 cast-open-subtable : tie.Need-cast-open-subtable Inv-loop μ-loop
 cast-open-subtable c = omega (arith, c .slice-known2 .given (c .before .before .before .before .loop .at))
 
@@ -70,7 +76,7 @@ measure-runs-spec =
     Inv-loop
     μ-loop
     loop-holds
-    (λ c κs. search needs)
+    end-of-run-requires
     (λ c. search needs)
     (λ c. search needs)
     cast-open-subtable

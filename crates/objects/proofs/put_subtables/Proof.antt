@@ -5,7 +5,7 @@ use native.Mathlib.Omega.{arith}
 use lib.ListN.{getD, length-take, length-drop, length}
 use denote.Ref.{now}
 use borrow.Author.Needs.{needs}
-use Rattle.objects.proofs.Going.{RunPart, going-run, Going, going-first, pairs-few, going-more, going-all}
+use Rattle.objects.proofs.Going.{RunPart, going-run, Going, going-first, pairs-few, going-climb, going-more, going-all}
 use Rattle.objects.proofs.put_subtables.Statement.{statement}
 use Rattle.objects.proofs.put_subtables.Tie as tie
 
@@ -25,7 +25,9 @@ loop-holds : tie.Need-loop-holds Inv-loop μ-loop
 loop-holds c = let s = c .before .before .before in (search needs, search needs, going-first _ _ (s .pre .0) (s .pre .1 .1 .1))
 
 end-of-run-requires : tie.Need-end-of-run-requires Inv-loop μ-loop
-end-of-run-requires c κs = let s = c .before .before .before .before .before .before in (omega (arith, pairs-few (now (s .args .work)) (s .args .n) (s .pre .0), s .pre .0 .area), search needs)
+end-of-run-requires c κs =
+    let s = c .before .before .before .before .before .before in
+    (omega (arith, pairs-few (now (s .args .work)) (s .args .n) (s .pre .0), s .pre .0 .area), (search needs, going-climb (s .pre .0) (c .before .before .loop .inv .2)))
 
 slice-read-stop : tie.Need-slice-read-stop Inv-loop μ-loop
 slice-read-stop c = omega (arith, turn (c .before), c .before .before .before .before .before .before .before .before .pre .0 .area)

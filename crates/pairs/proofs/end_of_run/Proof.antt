@@ -2,7 +2,7 @@ use Prim.Native.Nat.{_≤_, _-_}
 use native.Mathlib.Omega.{arith}
 use borrow.Author.Needs.{needs}
 use Rattle.pairs.specs.Pairs.{OneOuter}
-use Rattle.pairs.proofs.Laws.{one-first, one-more}
+use Rattle.pairs.proofs.Laws.{one-more}
 use Rattle.pairs.proofs.end_of_run.Statement.{statement}
 use Rattle.pairs.proofs.end_of_run.Tie as tie
 
@@ -29,8 +29,8 @@ end-of-run-spec =
     μ-loop
     (λ c. search needs)
     (λ c. search needs)
-    (λ c. search needs)
-    (λ c. (one-first _ _, search needs))
+    (λ c κs. search needs)
+    (λ c. c .leap .ensures)
     (λ c. search needs)
     (λ c. search needs)
     returns

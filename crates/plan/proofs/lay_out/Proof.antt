@@ -11,17 +11,17 @@ use Rattle.plan.proofs.lay_out.Tie as tie
 returns : tie.Need-returns
 returns c =
     let s = c .before .before .before .before in
-    gives-7 (s .pre .1 .1) (s .args .keep) (sym (c .before .nothing-kept .ensures) ∙ c .if1 .taken)
+    gives-7 (s .pre .1 .1 .1) (s .args .keep) (sym (c .before .nothing-kept .ensures) ∙ c .if1 .taken)
 
 returns-2 : tie.Need-returns-2
 returns-2 c =
     let s = c .before .before .before .before .before in
-    gives-8 (s .pre .1 .1) (s .args .keep) (sym (c .before .before .nothing-kept .ensures) ∙ c .before .if1 .left) (c .if2 .taken)
+    gives-8 (s .pre .1 .1 .1) (s .args .keep) (sym (c .before .before .nothing-kept .ensures) ∙ c .before .if1 .left) (c .if2 .taken)
 
 returns-3 : tie.Need-returns-3
 returns-3 c =
     let s = c .before .before .before .before .before .before in
-    gives-9 (s .pre .1 .1) (s .args .keep) (sym (c .before .before .before .nothing-kept .ensures) ∙ c .before .before .if1 .left) (c .before .if2 .left) (c .if3 .taken)
+    gives-9 (s .pre .1 .1 .1) (s .args .keep) (sym (c .before .before .before .nothing-kept .ensures) ∙ c .before .before .if1 .left) (c .before .if2 .left) (c .if3 .taken)
 
 count-used-requires : tie.Need-count-used-requires
 count-used-requires c κs = (search needs, omega (arith, c .region-count .ensures, regions-inside _ (c .before .before .before .before .before .before .before .before .pre .1 .0 .1) .few))
@@ -34,11 +34,11 @@ list-length-requires c κs =
 returns-4 : tie.Need-returns-4
 returns-4 c =
     let s = c .before .before .before .before .before .before .before .before .before .before .before .before in
-    let h = s .pre .1 .1 in
+    let h = s .pre .1 .1 .1 in
     let i = c .before .before .before .before .before .before .before .if2 .left in
     let l = length-take (s .args .n) (now (s .args .work)) in (
       gives-bytes h (s .args .keep) (sym (c .before .before .before .before .before .before .before .before .before .nothing-kept .ensures) ∙ c .before .before .before .before .before .before .before .before .if1 .left) i (c .before .before .before .before .before .before .if3 .left),
-      ready-of _ (s .pre .0 .0) (omega arith) (s .pre .1 .0 .0) (s .pre .1 .0 .1) h i (c .before .before .before .before .before .axis-count .ensures .0) (c .before .before .before .before .before .axis-count .ensures .1) (c .before .before .before .before .region-count .ensures) (c .before .before .before .count-used .ensures .0) (c .before .before .before .count-used .ensures .1)
+      ready-of _ (s .pre .0 .0) (omega arith) (s .pre .1 .1 .0) (s .pre .1 .0 .0) (s .pre .1 .0 .1) h i (c .before .before .before .before .before .axis-count .ensures .0) (c .before .before .before .before .before .axis-count .ensures .1) (c .before .before .before .before .region-count .ensures) (c .before .before .before .count-used .ensures .0) (c .before .before .before .count-used .ensures .1)
           (c .before .list-length .ensures .0) (c .before .list-length .ensures .1),
     )
 

@@ -27,7 +27,8 @@ lay-out-requires c κs =
     let w₂ = c .before .before .before .before .before .before .measure-runs .last .0 in
     let k = c .before .before .before .before .before .before .measure-runs .ensures in
     let h = rw (c .before .before .m .given .1) at (k .0) in
-    (search needs, (s .pre .1 .0, rw (front-same w₂ w₁ 8704 (k .1) (s .args .n) (omega arith)) h))
+    let e = front-same w₂ (now (s .args .work)) 8704 (k .1 ∙ c .before .before .before .before .before .before .before .before .before .before .before .clear-used .ensures .1) (s .args .n) (omega arith) in
+    (search needs, (s .pre .1 .0, (rw e (s .pre .1 .1), rw (front-same w₂ w₁ 8704 (k .1) (s .args .n) (omega arith)) h)))
 
 returns : tie.Need-returns
 returns c =
