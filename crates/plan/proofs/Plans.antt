@@ -1,12 +1,11 @@
 -- From what the first pass found to the plan.
-use Prim.Native.Nat.{ℕ, _+_, _*_, _/_, _^_, _<_, _≤_}
+use Prim.Native.Nat.{ℕ, _+_, _*_, _^_, _<_, _≤_}
 use mathlib.Core.Path.{_≡_, refl, sym, ap, _∙_}
 use mathlib.Core.Bool.{Bool, true, false, not}
 use mathlib.Core.List.{List, []}
 use native.Mathlib.Omega.{arith}
 use native.Mathlib.Nat.{mul-le-mul}
-use lib.ListN.{length, getD, take, drop, length-take}
-use lib.Seq.{getD-take}
+use lib.ListN.{length}
 use borrow.Author.Tests.{eq-eqb, ne-eqb}
 use Rattle.lists.specs.Pick.{pick, both}
 use Rattle.lists.specs.Gather.{rank}
@@ -30,13 +29,6 @@ use Rattle.measure.specs.Measured.{Whole}
 use Rattle.plan.specs.declared.Layout.{Layout}
 use Rattle.plan.specs.declared.Planned.{Planned}
 use Rattle.plan.specs.Layout.{Ready, cutRuns, PlannedAs}
-
--- the set's numbers below n are the same with one word more
-pub rank-used : (w : List ℕ) (n : ℕ) → n ≤ 4096 → rank (has (take 129 (drop 8704 w))) n ≡ rank (has (usedIn w)) n
-unfolding has
-rank-used w n h =
-    rank-ext (has (take 129 (drop 8704 w))) (has (usedIn w)) n
-    (λ i l. rw (getD-take 129 (drop 8704 w) (i / 32) 0 (omega arith), getD-take 128 (drop 8704 w) (i / 32) 0 (omega arith)))
 
 pub list-small : (used axes : ℕ) → used ≤ 4096 → axes ≤ 65535 → used * (6 * axes) ≤ 1610588160
 list-small used axes a b = mul-le-mul {n₁ = used} {m₁ = 6 * axes} {n₂ = 4096} {m₂ = 393210} a (omega arith)

@@ -59,12 +59,11 @@ fn region_count(s: &[u8]) -> usize
     u16_at(s, regions_at(s) + 2) as usize
 }
 
-// The set is lent with one number more than it has, as a count of 4,096 regions ends at its end.
 fn count_used(work: &[u32], regions: usize) -> usize
     requires { ⌜ (length (now work) ≡ 16384) × (regions ≤ 4096) ⌝ }
     ensures { λ r. ⌜ (r ≡ rank (has (usedIn (now (work .entry)))) regions) × (r ≤ regions) ⌝ }
 {
-    bits::rank_below(&work[8704..8833], regions)
+    bits::rank_below(&work[8704..8832], regions)
 }
 
 // The bytes of a region list.
