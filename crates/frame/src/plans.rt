@@ -10,6 +10,7 @@ ghost use Rattle.rules.specs.Maps.{mapBytes};
 ghost use Rattle.maps.specs.Plans.{Ready, MapPlanned, lengthOf, keptIn};
 ghost use Rattle.frame.specs.Plans.{Collected, offsetAt, Small, MapsPlanned, partAt};
 use maps::MapPlan;
+use maps::limit::inner_limit;
 use maps::map_length;
 use maps::plan_map;
 use maps::put_map;
@@ -37,12 +38,13 @@ pub fn plan_maps(work: &[u32], n: usize, t: &[u8], maps: usize, glyphs: &[u32]) 
         bits: 0,
         size: 0,
     };
+    let limit = inner_limit(work, n);
     let mut plans = [none; 4];
     let mut wide = false;
     let mut length = 0;
     let mut m = 0;
     while m < maps {
-        let p = plan_map(work, n, t, m, glyphs);
+        let p = plan_map(work, n, t, m, glyphs, limit);
         wide = wider(wide, p.size);
         length += map_length(p);
         plans[m] = p;

@@ -3,3 +3,4 @@ pub mod Most
 pub mod Ahead
 pub mod Plans
 pub mod Bytes
+pub mod Limits

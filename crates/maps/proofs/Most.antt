@@ -1,29 +1,56 @@
--- The largest number of a list, gathered from its start: what is gathered, and the largest of what is left.
-use Prim.Native.Nat.{ℕ, _+_, _≤_, _<_, max}
-use mathlib.Core.Path.{_≡_}
-use mathlib.Core.List.{List, map}
-use native.Mathlib.Numerals.{add-one}
+-- The largest number of a list, gathered from its end, and the bits that it takes.
+use Prim.Native.Nat.{ℕ, zero, suc, _-_, _^_, _≤_, _<_, max}
+use mathlib.Core.Path.{_≡_, ap, _∙_}
+use mathlib.Core.List.{List, [], _∷_, map}
+use native.Mathlib.Nat.{le-refl, lt-of-le-of-lt}
 use native.Mathlib.Omega.{arith}
+use lib.Count.{leadingZeros}
 use lib.ListN.{length, getD, drop, drop-of-length-le}
 use lib.Seq.{drop-cons}
 use Rattle.lists.specs.Search.{largest}
+use Rattle.rules.specs.Maps.{bitLength, bitsFor}
+use Rattle.laws.specs.Bits.{bits-some, bits-hold, bits-least}
 
--- most is the largest of the first i
+-- most is the largest from place i on
 pub record Most (f : ℕ → ℕ) (xs : List ℕ) (i most : ℕ) : Type 0 where
   pub inside : i ≤ length xs
-  pub left : max most (largest (map f (drop i xs))) ≡ largest (map f xs)
+  pub is : most ≡ largest (map f (drop i xs))
+
+largest-left : (f : ℕ → ℕ) (xs : List ℕ) (i : ℕ) → largest (map f (drop i xs)) ≤ largest (map f xs)
+unfolding largest
+largest-left f xs zero = le-refl (largest (map f xs))
+largest-left f [] (suc i) = le-refl 0
+largest-left f (x ∷ xs) (suc i) = omega (arith, largest-left f xs i)
 
 module _ {f : ℕ → ℕ} {xs : List ℕ} where
-  pub most-none : Most f xs 0 0
-  most-none = record { inside = omega arith; left = omega arith }
-
-  next : {i most : ℕ} → Most f xs i most → i < length xs → max most (max (f (getD xs i 0)) (largest (map f (drop (i + 1) xs)))) ≡ largest (map f xs)
+  pub most-none : Most f xs (length xs) 0
   unfolding largest
-  next {i} m h = rw add-one (rw (drop-cons xs i 0 h) at (m .left))
+  most-none = record { inside = le-refl (length xs); is = rw (drop-of-length-le xs (le-refl (length xs))) }
 
-  pub most-more : {i most v : ℕ} → Most f xs i most → i < length xs → v ≡ f (getD xs i 0) → Most f xs (i + 1) (max most v)
-  most-more m h e = record { inside = omega arith; left = let n = next m h in omega arith }
-
-  pub most-end : {i most : ℕ} → Most f xs i most → length xs ≤ i → most ≡ largest (map f xs)
+  pub most-more : {i most v : ℕ} → Most f xs i most → 0 < i → v ≡ f (getD xs (i - 1) 0) → Most f xs (i - 1) (max most v)
   unfolding largest
-  most-end m h = let n = rw (drop-of-length-le xs h) at (m .left) in omega arith
+  most-more {i} m h e =
+      let s : suc (i - 1) ≡ i = omega arith in
+      let d = drop-cons xs (i - 1) 0 (omega (arith, m .inside)) ∙ ap (λ (k : ℕ). getD xs (i - 1) 0 ∷ drop k xs) s in
+      record { inside = omega (arith, m .inside); is = rw d (omega (arith, m .is)) }
+
+  pub most-under : {i most : ℕ} → Most f xs i most → most ≤ largest (map f xs)
+  most-under {i} m = omega (arith, m .is, largest-left f xs i)
+
+  pub most-end : {i most : ℕ} → Most f xs i most → i ≤ 0 → most ≡ largest (map f xs)
+  most-end {i} m h = let e : i ≡ 0 = omega arith in rw e at (m .is)
+
+-- ---- bits
+
+bits-climb : (a b : ℕ) → a ≤ b → b < 2 ^ 32 → bitsFor a ≤ bitsFor b
+bits-climb a b h l = bits-least a (lt-of-le-of-lt h l) (bitsFor b) (bits-some b) (lt-of-le-of-lt h (bits-hold b l))
+
+-- a number with as many bits as a limit: those above it, up to the limit, have as many
+pub bits-full : {most top limit some full : ℕ} → most ≤ top → top ≤ limit → limit < 2 ^ 32 → full ≡ max 1 (32 - leadingZeros 32 limit)
+    → some ≡ max 1 (32 - leadingZeros 32 most) → some ≡ full → full ≡ bitsFor top
+unfolding bitsFor bitLength
+bits-full {most} {top} {limit} h l fits f s e = omega (arith, bits-climb most top h (lt-of-le-of-lt l fits), bits-climb top limit l fits)
+
+pub bits-all : {most top bits : ℕ} → most ≡ top → bits ≡ max 1 (32 - leadingZeros 32 most) → bits ≡ bitsFor top
+unfolding bitsFor bitLength
+bits-all e b = rw (← e) b

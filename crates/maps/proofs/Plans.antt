@@ -1,23 +1,25 @@
 -- The plan that the code makes of a map is the map's plan.
-use Prim.Native.Nat.{ℕ, _+_, _*_, _-_, _/_, _≤_, _<_, max}
+use Prim.Native.Nat.{ℕ, suc, _+_, _*_, _/_, _≤_, _<_}
 use mathlib.Core.Path.{_≡_, sym, _∙_}
 use mathlib.Core.Bool.{Bool, true, false}
 use mathlib.Core.List.{List, map}
 use native.Mathlib.Omega.{arith}
+use native.Mathlib.Nat.{le-of-suc-le-suc}
 use lib.ListN.{length, getD, take, length-take}
 use lib.Dec.{eqb}
-use lib.Count.{leadingZeros}
 use borrow.Author.Tests.{not-true, eqb-false}
 use Rattle.lists.specs.Pick.{pick, both, differ}
 use Rattle.lists.specs.Search.{member}
-use Rattle.lists.proofs.Each.{both-hold}
+use Rattle.lists.proofs.Each.{both-hold, getD-map}
 use Rattle.lists.proofs.Choices.{not-second}
+use Rattle.lists.proofs.Members.{length-map}
+use Rattle.lists.proofs.Largest.{largest-below}
 use Rattle.opentype.specs.Map.{outerBits}
 use Rattle.opentype.specs.Table.{mapAt}
-use Rattle.rules.specs.Lists.{Run, badGlyphs}
+use Rattle.rules.specs.Lists.{Run, oldId, badGlyphs}
 use Rattle.rules.specs.Open.{badMap}
-use Rattle.rules.specs.Numbering.{present, counts, pairOf, keptPairs}
-use Rattle.rules.specs.Maps.{isWritten, mapPlan, countOf, bitLength, bitsFor, largestInner, newOuterBits, entrySize}
+use Rattle.rules.specs.Numbering.{present, counts, pairOf, keptPairs, newInner}
+use Rattle.rules.specs.Maps.{isWritten, mapPlan, countOf, bitsFor, largestInner, newOuterBits, entrySize}
 use Rattle.laws.specs.Glyphs.{good-glyphs}
 use Rattle.laws.specs.Kept.{kept-member}
 use Rattle.laws.specs.Packed.{Packed, AllKept, packed}
@@ -25,7 +27,7 @@ use Rattle.readers.specs.declared.map.Pair.{Pair}
 use Rattle.numbering.specs.Pairs.{pairAt, Paired}
 use Rattle.numbering.specs.Numbered.{Among, Numbered, Renumbered, Checked}
 use Rattle.numbering.proofs.Pairs.{map-good}
-use Rattle.maps.specs.Plans.{keptIn, largestAt, Kept, Ready, MapPlanned}
+use Rattle.maps.specs.Plans.{keptIn, largestAt, Kept, Ready, Bounds, MapPlanned}
 
 -- a map of a table that passed its checks, with its kept pairs collected
 pub ready : {maps count n m : ℕ} {w t es : List ℕ} → Checked maps count t es → badGlyphs es ≡ false → Numbered w n → take n w ≡ keptPairs maps t es → m < maps
@@ -45,6 +47,13 @@ kept-parts p h = record { small = p .small; kept = rw (p .is) h }
 
 pub renumbered-is : {pair : ℕ} {p r : Pair} {ps : List ℕ} → Paired pair p → Renumbered ps (p .outer * 65536 + p .inner) r → Renumbered ps pair r
 renumbered-is p d = rw (p .is) at d
+
+-- no new inner of the listed glyphs is above the limit
+pub under-limit : {n : ℕ} {w t : List ℕ} {at : ℕ} {es : List ℕ} {limit : ℕ} → Kept n w t at es → Bounds n w limit → largestAt (keptIn n w) t at es ≤ limit
+under-limit {n} {w} {t} {at} {es} {limit} k b =
+    let f : ℕ → ℕ = λ e. newInner (keptIn n w) (pairAt t at (oldId e)) in
+    le-of-suc-le-suc (largest-below (map f es) (suc limit) 0 (omega arith)
+    (λ i l. let h : i < length es = rw (length-map f es) at l in rw (getD-map f 0 0 es i h) (omega (arith, b .each _ (k .each i h)))))
 
 -- ---- the plan
 
@@ -89,14 +98,14 @@ module _ {n : ℕ} {w t es : List ℕ} {m : ℕ} (r : Ready n w t es m) (h : isW
       } in
       packed all bytes (r .glyphs) (some-listed t es m h) (not-second (present t m) (badMap t (mapAt t m)) (r .usable))
 
-  pub planned : {at count top bits outers : ℕ} → ((i : ℕ) → getD t i 0 < 256) → at ≡ mapAt t m → count ≡ countOf (λ g. pairAt t at g) es
-      → top ≡ largestAt (keptIn n w) t at es → bits ≡ max 1 (32 - leadingZeros 32 top) → outers ≡ pick (differ at 0) (outerBits t at) 6 → outers ≤ 31
+  pub planned : {at count bits outers : ℕ} → ((i : ℕ) → getD t i 0 < 256) → at ≡ mapAt t m → count ≡ countOf (λ g. pairAt t at g) es
+      → bits ≡ bitsFor (largestAt (keptIn n w) t at es) → outers ≡ pick (differ at 0) (outerBits t at) 6 → outers ≤ 31
       → MapPlanned t (keptIn n w) es m (record { written = true; count = count; bits = bits; size = (outers + bits + 7) / 8 })
-  unfolding mapPlan pairOf pairAt present largestInner bitsFor bitLength newOuterBits entrySize
-  planned {at} {count} {top} {bits} {outers} bytes e c l b o short =
+  unfolding mapPlan pairOf pairAt present largestInner newOuterBits entrySize
+  planned {at} {count} {bits} {outers} bytes e c b o short =
       let p = packs bytes in
       let c′ = rw e at c in
-      let b′ = rw (l, e) at b in
+      let b′ = rw e at b in
       let o′ = rw e at o in
       record {
         written = sym h;

@@ -64,6 +64,10 @@ pub record Ready (n : ℕ) (w t es : List ℕ) (m : ℕ) : Type 0 where
   pub numbered : Numbered w n
   pub kept : counts t m ≡ true → (k : ℕ) → k < length es → member (pairOf t m (oldId (getD es k 0))) (take n w) ≡ true
 
+-- no new inner of the kept pairs is above the limit
+pub record Bounds (n : ℕ) (w : List ℕ) (limit : ℕ) : Type 0 where
+  pub each : (pair : ℕ) → member pair (take n w) ≡ true → newInner (keptIn n w) pair ≤ limit
+
 -- The plan p of map m: all is 0 where the map is not written.
 pub record MapPlanned (t : List ℕ) (rs : List Run) (es : List ℕ) (m : ℕ) (p : MapPlan) : Type 0 where
   pub written : p .written ≡ isWritten t es m

@@ -9,10 +9,13 @@ ghost use Rattle.lists.specs.Search.{member};
 ghost use Rattle.cells.specs.Be.{Wrote};
 ghost use Rattle.opentype.specs.Map.{outerBits};
 ghost use Rattle.rules.specs.Lists.{newId, oldId};
-ghost use Rattle.rules.specs.Maps.{countOf, newEntry, mapBytes};
+ghost use Rattle.rules.specs.Maps.{countOf, bitsFor, newEntry, mapBytes};
 ghost use Rattle.numbering.specs.Pairs.{pairAt, Sourced};
 ghost use Rattle.numbering.specs.Numbered.{Numbered};
-ghost use Rattle.maps.specs.Plans.{keptIn, largestAt, headOf, entriesOf, Kept, Ready, EntriesFit, MapPlanned, lengthOf};
+ghost use Rattle.maps.specs.Plans.{keptIn, largestAt, headOf, entriesOf, Kept, Ready, EntriesFit, Bounds, MapPlanned, lengthOf};
+
+pub mod limit;
+
 use numbering::numbers::renumbered;
 use numbering::sources::counts;
 use numbering::sources::glyph_pair;
@@ -69,20 +72,26 @@ fn greater(a: u32, b: u32) -> u32
     if a < b { b } else { a }
 }
 
-fn largest_inner(work: &[u32], n: usize, t: &[u8], map: Map, glyphs: &[u32]) -> u32
+// The bits of the largest new inner of the listed glyphs. None has more bits than the limit, so one that has as many ends the search.
+fn new_inner_bits(work: &[u32], n: usize, t: &[u8], map: Map, glyphs: &[u32], limit: u32) -> u32
     requires { ⌜ Sourced (now t) map ⌝ }
     requires { ⌜ Kept n (now work) (now t) (map .at) (now glyphs) ⌝ }
-    ensures { λ r. ⌜ r ≡ largestAt (keptIn n (now (work .entry))) (now (t .entry)) (map .at) (now (glyphs .entry)) ⌝ }
+    requires { ⌜ Bounds n (now work) limit ⌝ }
+    ensures { λ r. ⌜ r ≡ bitsFor (largestAt (keptIn n (now (work .entry))) (now (t .entry)) (map .at) (now (glyphs .entry))) ⌝ }
 {
+    let full = bits::inner_bits(limit);
     let mut most = 0;
-    let mut i = 0;
-    while i < glyphs.len() {
-        let old = glyph_pair(t, map, (glyphs[i] % 65536) as usize);
+    let mut i = glyphs.len();
+    while i > 0 {
+        let old = glyph_pair(t, map, (glyphs[i - 1] % 65536) as usize);
         let new = renumbered(work, n, old);
         most = greater(most, new.inner);
-        i += 1;
+        if bits::inner_bits(most) == full {
+            return full;
+        }
+        i -= 1;
     }
-    most
+    bits::inner_bits(most)
 }
 
 // The source map's entry bits less its inner bits; 6 for an absent advance map.
@@ -107,13 +116,14 @@ fn is_written(m: usize, at: usize, listed: usize) -> bool
     false
 }
 
-pub fn plan_map(work: &[u32], n: usize, t: &[u8], m: usize, glyphs: &[u32]) -> MapPlan
+pub fn plan_map(work: &[u32], n: usize, t: &[u8], m: usize, glyphs: &[u32], limit: u32) -> MapPlan
     requires { ⌜ Ready n (now work) (now t) (now glyphs) m ⌝ }
+    requires { ⌜ Bounds n (now work) limit ⌝ }
     ensures { λ r. ⌜ MapPlanned (now (t .entry)) (keptIn n (now (work .entry))) (now (glyphs .entry)) m r ⌝ }
 {
     let map = source_of(t, m);
     if is_written(m, map.at, glyphs.len()) {
-        let bits = bits::inner_bits(largest_inner(work, n, t, map, glyphs)) as usize;
+        let bits = new_inner_bits(work, n, t, map, glyphs, limit) as usize;
         return MapPlan {
             written: true,
             count: count_of(t, map, glyphs),

@@ -12,15 +12,15 @@ use Rattle.maps.proofs.plan_map.Tie as tie
 written : (c : tie.Then1) → let a = c .before .before .before .before .before .before .args in isWritten (now (a .t)) (now (a .glyphs)) (a .m) ≡ true
 written c = written-is _ _ _ (c .before .before .source-of .ensures .0) refl (c .before .is-written .ensures) (c .if1 .taken)
 
-largest-inner-requires : tie.Need-largest-inner-requires
-largest-inner-requires c κs = (search needs, kept-at (c .before .before .before .before .before .before .pre) (written c) (c .before .before .source-of .ensures .0))
+new-inner-bits-requires : tie.Need-new-inner-bits-requires
+new-inner-bits-requires c κs = let p = c .before .before .before .before .before .before .pre in (search needs, (kept-at (p .0) (written c) (c .before .before .source-of .ensures .0), p .1))
 
 returns : tie.Need-returns
 returns c =
-    let b = c .before .before .before .before in
+    let b = c .before .before .before in
     let a = b .before .before .before in
-    planned (a .before .before .before .pre) (written b) (λ i. omega (arith, a .before .shared-slice-known2 .given i)) (b .before .before .source-of .ensures .0)
-    (c .before .count-of .ensures) (c .before .before .before .largest-inner .ensures) (c .before .before .inner-bits .ensures) (c .outer-bits .ensures .0) (c .outer-bits .ensures .1)
+    planned (a .before .before .before .pre .0) (written b) (λ i. omega (arith, a .before .shared-slice-known2 .given i)) (b .before .before .source-of .ensures .0)
+    (c .before .count-of .ensures) (c .before .before .new-inner-bits .ensures) (c .outer-bits .ensures .0) (c .outer-bits .ensures .1)
 
 returns-2 : tie.Need-returns-2
 returns-2 c = not-written _ _ _ _ (written-is _ _ _ (c .before .before .source-of .ensures .0) refl (c .before .is-written .ensures) (c .if1 .left))
@@ -31,10 +31,9 @@ plan-map-spec =
     (tie.spec
     (λ c κs. search needs)
     (λ c κs. search needs)
-    largest-inner-requires
-    (λ c κs. search needs)
+    new-inner-bits-requires
     (λ c. search needs)
-    (λ c κs. (search needs, some-listed _ _ _ (written (c .before .before))))
+    (λ c κs. (search needs, some-listed _ _ _ (written (c .before))))
     (λ c κs. search needs)
     (λ c. search needs)
     (λ c. search needs)

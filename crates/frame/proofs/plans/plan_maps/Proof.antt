@@ -9,18 +9,18 @@ use Rattle.frame.proofs.plans.plan_maps.Statement.{statement}
 use Rattle.frame.proofs.plans.plan_maps.Tie as tie
 
 abbrev Inv-loop : tie.InvT-loop
-Inv-loop work n t maps glyphs plans₀ wide₀ length₀ m₀ plans wide total m = (m ≤ maps) × MapsPlanned maps t glyphs plans wide total m
+Inv-loop work n t maps glyphs limit plans₀ wide₀ length₀ m₀ plans wide total m = (m ≤ maps) × MapsPlanned maps t glyphs plans wide total m
 
 abbrev μ-loop : tie.MeasureT-loop
-μ-loop work n t maps glyphs plans₀ wide₀ length₀ m₀ plans wide length m = maps - m
+μ-loop work n t maps glyphs limit plans₀ wide₀ length₀ m₀ plans wide length m = maps - m
 
 plan-map-requires : tie.Need-plan-map-requires Inv-loop μ-loop
-plan-map-requires c κs = c .before .before .before .before .before .pre .ready (c .before .loop .m) (c .loop-test .taken)
+plan-map-requires c κs = (c .before .before .before .before .before .before .pre .ready (c .before .loop .m) (c .loop-test .taken), c .before .before .inner-limit .ensures)
 
 loop-again : tie.Need-loop-again Inv-loop μ-loop
 loop-again c =
     let l = c .before .before .before .before .loop in
-    let a = c .before .before .before .before .before .before .before .before in
+    let a = c .before .before .before .before .before .before .before .before .before in
     let n = c .map-length .ensures in
     (search needs, planned-more (l .inv .1) (omega (arith, a .pre .four)) (by-rules (a .pre) (c .before .before .plan-map .ensures)) (c .before .wider .ensures) (n .0) (n .1))
 
@@ -30,6 +30,7 @@ plan-maps-spec =
     (tie.spec
     Inv-loop
     μ-loop
+    (λ c κs. search needs)
     (λ c. (search needs, planned-none _ _ _ _ refl))
     plan-map-requires
     (λ c κs. search needs)
