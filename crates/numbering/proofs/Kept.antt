@@ -19,6 +19,7 @@ module _ {w : List ℕ} {n : ℕ} (d : Numbered w n) (v : List ℕ) (same : take
     long = l ∙ d .long;
     few = d .few;
     climbs = rw pairs-kept (d .climbs);
+    once = rw pairs-kept (d .once);
     low = rw pairs-kept (d .low);
     starts = rw pairs-kept (λ o u. at (8192 + o) (omega (arith, d .low o u)) ∙ d .starts o u);
     numbers = rw pairs-kept (λ o u. at (8448 + o) (omega (arith, d .low o u)) ∙ d .numbers o u);

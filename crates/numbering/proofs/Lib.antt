@@ -5,6 +5,8 @@ pub mod Fresh
 pub mod Grown
 pub mod Starts
 pub mod Ordered
+pub mod Once
+pub mod Index
 pub mod Collecting
 pub mod Renumber
 pub mod Kept

@@ -1,5 +1,5 @@
 -- The new numbers of a kept pair, by the tables of the runs.
-use Prim.Native.Nat.{ℕ, _+_, _*_, _/_, _<_, _≤_}
+use Prim.Native.Nat.{ℕ, _+_, _-_, _*_, _/_, _<_, _≤_}
 use mathlib.Core.Path.{_≡_, sym, ap, _∙_}
 use mathlib.Core.Bool.{true}
 use mathlib.Core.List.{List}
@@ -9,11 +9,12 @@ use lib.Seq.{length-take-le}
 use Rattle.lists.specs.Gather.{rank}
 use Rattle.lists.specs.Search.{member, place}
 use Rattle.lists.proofs.Selects.{rank-le}
+use Rattle.lists.proofs.Places.{at-place}
 use Rattle.rules.specs.Lists.{outer, runs}
 use Rattle.rules.specs.Numbering.{newInner}
 use Rattle.readers.specs.declared.map.Pair.{Pair}
 use Rattle.numbering.specs.Numbered.{startOf, used, Numbered, Among, Renumbered}
-use Rattle.numbering.proofs.Starts.{start-inside, inner-place, inner-short, used-member, outer-rank}
+use Rattle.numbering.proofs.Starts.{start-inside, start-place, inner-place, inner-short, used-member, outer-rank}
 
 module _ {w : List ℕ} {n : ℕ} {p : Pair} (k : Numbered w n) (a : Among (take n w) p) where
   its-outer : (p .outer * 65536 + p .inner) / 65536 ≡ p .outer
@@ -31,12 +32,21 @@ module _ {w : List ℕ} {n : ℕ} {p : Pair} (k : Numbered w n) (a : Among (take
   pub start-low : getD w (8192 + p .outer) 0 ≤ n
   start-low = rw (k .starts (p .outer) its-used) (omega (arith, start-inside (take n w) (p .outer), size))
 
-  pub renumber : {r : Pair} → r .outer ≡ getD w (8448 + p .outer) 0 → r .inner ≡ place (p .outer * 65536 + p .inner) (drop (getD w (8192 + p .outer) 0) (take n w))
+  -- the pair's place: in the list, and behind the start of its run
+  pub place-low : place (p .outer * 65536 + p .inner) (take n w) < n
+  place-low = omega (arith, at-place (p .outer * 65536 + p .inner) 0 (take n w) (a .kept) .0, size)
+
+  pub place-behind : place (p .outer * 65536 + p .inner) (take n w) ≡ getD w (8192 + p .outer) 0 + place (p .outer * 65536 + p .inner) (drop (getD w (8192 + p .outer) 0) (take n w))
+  place-behind = rw (k .starts (p .outer) its-used) (rw its-outer at (start-place 0 (p .outer * 65536 + p .inner) (take n w) (k .climbs)))
+
+  pub renumber : {r : Pair} → r .outer ≡ getD w (8448 + p .outer) 0 → r .inner ≡ place (p .outer * 65536 + p .inner) (take n w) - getD w (8192 + p .outer) 0
       → Renumbered (take n w) (p .outer * 65536 + p .inner) r
   renumber {r} e f =
       let pair = p .outer * 65536 + p .inner in
+      let start = getD w (8192 + p .outer) 0 in
       let g = inner-place pair (take n w) (k .climbs) (a .kept) in
-      let i : r .inner ≡ newInner (runs (take n w)) pair = f ∙ rw (k .starts (p .outer) its-used) (sym (rw its-outer at g)) in
+      let d : r .inner ≡ place pair (drop start (take n w)) = omega (arith, f, place-behind) in
+      let i : r .inner ≡ newInner (runs (take n w)) pair = d ∙ rw (k .starts (p .outer) its-used) (sym (rw its-outer at g)) in
       let h = e ∙ k .numbers (p .outer) its-used in
       record {
         outer = h ∙ sym (rw its-outer at (outer-rank 256 pair (take n w) (k .climbs) (k .low) (a .kept)));

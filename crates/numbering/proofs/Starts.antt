@@ -4,7 +4,7 @@ use mathlib.Core.Path.{_≡_, refl, sym, ap, _∙_}
 use mathlib.Core.Bool.{Bool, true, false, false≢true}
 use mathlib.Core.List.{List, [], _∷_, _++_, map}
 use native.Mathlib.Decide.{decLt, ℕ-discrete}
-use native.Mathlib.Nat.{le-refl}
+use native.Mathlib.Nat.{le-refl, zero-add}
 use native.Mathlib.Omega.{arith}
 use lib.Dec.{ltb, eqb}
 use lib.ListN.{length, drop}
@@ -80,6 +80,17 @@ run-place b p (q ∷ qs) c h =
             | yes s ↦ rw (eq-eqb p q s)
             | no s ↦ (let i = run-place (outer q) p qs (c .1) (behind p q qs s h) in rw (ne-eqb p q s) (ap suc (rw z at i)))
           ]))
+    ]
+
+-- its place in the whole list lies behind the run's start
+pub start-place : (b p : ℕ) (ps : List ℕ) → Climbs b ps → place p ps ≡ startOf ps (outer p) + place p (drop (startOf ps (outer p)) ps)
+unfolding place
+start-place b p [] c = rw (start-nothing (outer p))
+start-place b p (q ∷ qs) c =
+    elim (decLt (outer q) (outer p)) [
+      | yes l ↦ (let i = start-place (outer q) p qs (c .1) in
+          rw (ne-eqb p q (λ e. omega arith), start-step q qs (outer p), lt-ltb (outer q) (outer p) l) (omega (arith, i)))
+      | no g ↦ rw (start-none (outer q) (outer p) (q ∷ qs) (le-refl (outer q), c .1) (omega arith)) (sym (zero-add (place p (q ∷ qs))))
     ]
 
 pub inner-place : (p : ℕ) (ps : List ℕ) → Climbs 0 ps → member p ps ≡ true → newInner (runs ps) p ≡ place p (drop (startOf ps (outer p)) ps)

@@ -7,7 +7,7 @@ use lib.Dec.{ltb}
 use lib.ListN.{length, getD, take}
 use Rattle.lists.specs.Gather.{keep, rank}
 use Rattle.lists.specs.Search.{member}
-use Rattle.rules.specs.Lists.{outer, runs, mostGlyphs}
+use Rattle.rules.specs.Lists.{outer, twice, runs, mostGlyphs}
 use Rattle.rules.specs.Open.{mostSubtables}
 use Rattle.rules.specs.Numbering.{namedPairs, badOuter, newOuter, newInner}
 use Rattle.rules.specs.TableCut.{badMaps}
@@ -22,11 +22,12 @@ startOf ps o = length (keep (λ p. ltb (outer p) o) ps)
 unfoldable pub used : List ℕ → ℕ → Bool
 used ps o = member o (map (λ p. outer p) ps)
 
--- the first n numbers are pairs whose outers don't fall; the start and the new number of each outer's run stand behind
+-- the first n numbers are pairs whose outers don't fall, none twice; the start and the new number of each outer's run stand behind
 pub record Numbered (w : List ℕ) (n : ℕ) : Type 0 where
   pub long : length w ≡ 16384
   pub few : n ≤ 8192
   pub climbs : Climbs 0 (take n w)
+  pub once : twice (take n w) ≡ false
   pub low : (o : ℕ) → used (take n w) o ≡ true → o < 256
   pub starts : (o : ℕ) → used (take n w) o ≡ true → getD w (8192 + o) 0 ≡ startOf (take n w) o
   pub numbers : (o : ℕ) → used (take n w) o ≡ true → getD w (8448 + o) 0 ≡ rank (used (take n w)) o
