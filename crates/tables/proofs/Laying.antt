@@ -1,17 +1,18 @@
--- The table as it is laid: header, store, maps.
+-- The table as it is laid: header, maps, and the store between them.
 use Prim.Native.Nat.{ℕ, zero, suc, _+_, _-_, _*_, _<_, _≤_}
 use mathlib.Core.Path.{_≡_, refl, sym, ap, subst, _∙_}
 use mathlib.Core.Bool.{Bool, true, false}
 use mathlib.Core.List.{List, [], _∷_, _++_, append-assoc}
 use native.Mathlib.Omega.{arith}
-use lib.ListN.{length, take, drop, length-append}
-use lib.Seq.{length-take-le}
-use borrow.Rule.Slice.PartMut.{putMid}
+use lib.ListN.{length, take, drop, length-append, length-drop}
+use lib.Seq.{length-take-le, take-at, drop-at}
+use borrow.Rule.Slice.PartMut.{putMid, take-put, drop-put, post-is}
 use Rattle.lists.specs.Gather.{gather, flat, tab}
 use Rattle.lists.specs.Search.{some}
 use Rattle.lists.proofs.Pieces.{length-tab}
 use Rattle.lists.proofs.Tabs.{gather-tab}
 use Rattle.lists.proofs.Parts.{put-next}
+use Rattle.lists.proofs.Cuts.{front-same}
 use Rattle.cells.specs.Be.{beBytes}
 use Rattle.cells.proofs.Cells.{length-beBytes}
 use Rattle.opentype.specs.Table.{headerLength, storeOf}
@@ -42,23 +43,45 @@ table-length maps t store f h =
 
 -- ---- the bytes
 
+-- two parts of which one ends where the other starts are laid in any order
+put-apart : (a e k : ℕ) (xs u v : List ℕ) → a ≤ e → e ≤ length xs → length u ≡ e - a → putMid a (e - a) (putMid e k xs v) u ≡ putMid e k (putMid a (e - a) xs u) v
+put-apart a e k xs u v h g l =
+    let ys = putMid e k xs v in
+    let zs = putMid a (e - a) xs u in
+    let rest = v ++ drop k (drop e xs) in
+    let front : take a ys ≡ take a xs = front-same ys xs e (take-put e k xs v g) a h in
+    let behind : drop (e - a) (drop a ys) ≡ rest = post-is a e ys h ∙ drop-at (take e xs) rest e (length-take-le e xs g) in
+    let n : length (take a xs ++ u) ≡ e = rw (length-append, length-take-le a xs (omega arith)) (omega arith) in
+    let both : take e zs ≡ take a xs ++ u
+    = ap (λ (z : List ℕ). take e z) (sym (append-assoc (take a xs) u (drop (e - a) (drop a xs)))) ∙ take-at (take a xs ++ u) (drop (e - a) (drop a xs)) e n in
+    ap (λ (z : List ℕ). z ++ (u ++ drop (e - a) (drop a ys))) front
+    ∙ (ap (λ (z : List ℕ). take a xs ++ (u ++ z)) behind
+    ∙ (sym (append-assoc (take a xs) u rest)
+    ∙ sym (ap (λ (z : List ℕ). z ++ (v ++ drop k (drop e zs))) both ∙ ap (λ (z : List ℕ). (take a xs ++ u) ++ (v ++ drop k z)) (drop-put a e xs u h g l))))
+
 pub table-laid : {maps : ℕ} {t es : List ℕ} {plans : List MapPlan} {wide : Bool} {total : ℕ} (old store : List ℕ) (size : ℕ) {h s m : List ℕ}
     → MapsPlanned maps t es plans wide total maps → size ≡ length store → 4 ≤ length t
     → h ≡ take 4 t ++ beBytes 4 (headerLength maps) ++ gather (λ k. offsetAt plans (8 + 4 * maps + size) k) maps → s ≡ store → m ≡ gather (λ k. partAt maps t es k) maps
-    → putMid (8 + 4 * maps + size) (8 + 4 * maps + size + total - (8 + 4 * maps + size)) (putMid (8 + 4 * maps) (8 + 4 * maps + size - (8 + 4 * maps)) (putMid 0 (8 + 4 * maps - 0) old h) s) m
+    → 8 + 4 * maps + size + total ≤ length old
+    → putMid (8 + 4 * maps) (8 + 4 * maps + size - (8 + 4 * maps)) (putMid (8 + 4 * maps + size) (8 + 4 * maps + size + total - (8 + 4 * maps + size)) (putMid 0 (8 + 4 * maps - 0) old h) m) s
     ≡ layTable maps t store (tab (λ k. partAt maps t es k) maps) ++ drop (8 + 4 * maps + size + total) old
 unfolding layTable headerLength
-table-laid {maps} {t} {es} {plans} {total = total} old store size p n four h s m =
+table-laid {maps} {t} {es} {plans} {total = total} old store size {h = bytes} {s = kept} {m = laid} p n four h s m fits =
     let head = 8 + 4 * maps in
     let part : ℕ → List ℕ = λ k. partAt maps t es k in
     let header = take 4 t ++ beBytes 4 (headerLength maps) ++ mapOffsets (head + length store) (tab part maps) in
     let same = rw (offsets-up-to p (head + size) maps (omega arith), n) at h in
     let l : length header ≡ head = simp (length-append, length-take-le 4 t four, length-beBytes, length-offsets, length-tab) in
     let k : length (header ++ store) ≡ head + size = rw (length-append, l) (omega arith) in
-    let p₁ = put-next old [] header 0 head refl refl (omega arith) same refl in
-    let p₂ = put-next old header (header ++ store) head (head + size) p₁ l (omega arith) s refl in
+    let start = header ++ drop head old in
+    let p₁ : putMid 0 (head - 0) old bytes ≡ start = put-next old [] header 0 head refl refl (omega arith) same refl in
+    let room : head + size ≤ length start = rw (length-append, l, length-drop) (omega arith) in
+    let k₁ : length kept ≡ head + size - head = omega (arith, ap length s) in
+    let p₂ = put-next old header (header ++ store) head (head + size) refl l (omega arith) s refl in
     let p₃ = put-next old (header ++ store) ((header ++ store) ++ gather part maps) (head + size) (head + size + total) p₂ k (omega arith) m refl in
-    rw (← gather-tab (λ k. k) part) p₃
+    ap (λ (z : List ℕ). putMid head (head + size - head) (putMid (head + size) (head + size + total - (head + size)) z laid) kept) p₁
+    ∙ (put-apart head (head + size) (head + size + total - (head + size)) start kept laid (omega arith) room k₁
+    ∙ rw (← gather-tab (λ k. k) part) p₃)
 
 -- ---- the outcome
 

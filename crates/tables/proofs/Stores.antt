@@ -15,6 +15,9 @@ use Rattle.plan.specs.declared.Layout.{Layout}
 use Rattle.plan.specs.declared.Planned.{Planned}
 use Rattle.plan.specs.declared.Planned.the-variants.{Null, Laid, Refused}
 use Rattle.plan.specs.Layout.{Ready, StorePlanned}
+use Rattle.plan.specs.Layout.{Passed as PlanPassed}
+use Rattle.bits.specs.Bits.{has}
+use Rattle.lists.proofs.Cuts.{part-same}
 use Rattle.laws.specs.Lengths.{length-null}
 use Rattle.numbering.proofs.Kept.{pairs-kept, numbered-kept}
 use Rattle.laws.specs.Glyphs.{good-glyphs}
@@ -104,3 +107,40 @@ in-pairs ps e h = rw e h
 
 pub kept-as : {s pairs w : List ℕ} {p : Planned} {n m : ℕ} → StoreKept s pairs w p n → m ≡ n → StoreKept s pairs w p m
 kept-as h e = rw e h
+
+-- what is known of the store's plan stands in the first 9,088 numbers
+module _ {s pairs w : List ℕ} (v : List ℕ) (same : take 9088 v ≡ take 9088 w) (long : length v ≡ length w) where
+  still-passed : PlanPassed s pairs w → PlanPassed s pairs v
+  still-passed p = record {
+    area = long ∙ p .area;
+    pairsFit = p .pairsFit;
+    climb = p .climb;
+    store = p .store;
+    list = p .list;
+    usable = p .usable;
+    named = p .named;
+    used = λ q h. ap (λ (ws : List ℕ). has ws q) (part-same v w 9088 same 8704 128 (omega arith)) ∙ p .used q h;
+  }
+
+  still-ready : {l : Layout} → Ready s pairs w l → Ready s pairs v l
+  still-ready {l} r = record {
+    passed = still-passed (r .passed);
+    few = r .few;
+    count = r .count;
+    noted = part-same v w 9088 same 8832 (l .count) (omega (arith, r .few)) ∙ r .noted;
+    axes = r .axes;
+    axesFit = r .axesFit;
+    regions = r .regions;
+    usedFit = r .usedFit;
+    number = r .number;
+    whole = r .whole;
+    small = r .small;
+  }
+
+  pub still-kept : {p : Planned} {n : ℕ} → StoreKept s pairs w p n → StoreKept s pairs v p n
+  still-kept {p} {n} k = record { size = k .size; ready = by p (k .ready) }
+    where
+      by : (q : Planned) → Writable s pairs w q n → Writable s pairs v q n
+      by Null r = r
+      by (Laid l) r = (r .0, still-ready (r .1))
+      by (Refused q) r = r

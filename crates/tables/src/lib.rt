@@ -17,6 +17,7 @@ use frame::plans::plan_maps;
 use frame::plans::put_maps;
 use numbering::collect::collect;
 use numbering::glyphs::bad_glyphs;
+use numbering::numbers::index;
 use numbering::sources::bad_maps;
 use numbering::sources::bad_outers;
 use plan::Planned;
@@ -28,11 +29,10 @@ use rules::Refusal;
 use store::put_null;
 use store::put_store;
 
-// Writes the store that was planned.
+// Writes the store that was planned; its columns stand where the index of the pairs stood.
 fn put_planned(out: &mut [u8], work: &mut [u32], n: usize, s: &[u8], planned: Planned)
     requires { ⌜ StoreKept (now s) (take n (now work)) (now work) planned (length (now out)) ⌝ }
     ensures { λ _. ⌜ now (out .exit) ≡ storeKept (now (s .entry)) (take n (now (work .entry))) planned ⌝ }
-    ensures { λ _. ⌜ take 8704 (now (work .exit)) ≡ take 8704 (now (work .entry)) ⌝ }
 {
     match planned {
         Planned::Null => put_null(out),
@@ -58,6 +58,7 @@ fn cut_planned(
     ensures { λ r. ⌜ Fitted (withPlanned maps (now (t .entry)) (now (glyphs .entry)) (now (s .entry)) planned)
         (now (out .entry)) r (now (out .exit)) ⌝ }
 {
+    index(work, n);
     let p = plan_maps(work, n, t, maps, glyphs);
     if p.wide {
         return Answer::Refused(Refusal::WideEntry);
@@ -70,8 +71,8 @@ fn cut_planned(
     }
     let plans = p.plans;
     put_header(&mut out[0..head], t, plans, maps, middle);
-    put_planned(&mut out[head..middle], work, n, s, planned);
     put_maps(&mut out[middle..end], work, n, t, maps, glyphs, plans);
+    put_planned(&mut out[head..middle], work, n, s, planned);
     Answer::Written(end)
 }
 
