@@ -28,6 +28,7 @@ use plan::list_length;
 use plan::regions_at;
 use readers::subtable::Subtable;
 use readers::subtable::row_length;
+use rows::copy;
 use rows::plan_columns;
 use rows::put_subtable;
 
@@ -57,17 +58,6 @@ pub fn put_offsets(out: &mut [u8], work: &[u32], count: usize, first: usize)
         next += work[8832 + k] as usize;
         at = end;
         k += 1;
-    }
-}
-
-fn copy(out: &mut [u8], s: &[u8])
-    requires { ⌜ length (now out) ≡ length (now s) ⌝ }
-    ensures { λ _. ⌜ now (out .exit) ≡ now (s .entry) ⌝ }
-{
-    let mut i = 0;
-    while i < s.len() {
-        out[i] = s[i];
-        i += 1;
     }
 }
 

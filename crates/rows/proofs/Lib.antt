@@ -5,5 +5,6 @@ pub mod Marking
 pub mod Plans
 pub mod Fits
 pub mod Lows
+pub mod Wholes
 pub mod Writing
 pub mod Subtables

@@ -53,7 +53,7 @@ last-bytes w b s at z h t =
     ∙ rw (be-cat (w - b) b s at) (low-bytes b (be (w - b) s at) (be b s (at + (w - b))))
 
 -- a column's cell ends where the next one starts
-cell-next : (isLong : Bool) (words c : ℕ) → cellAt isLong words (c + 1) ≡ cellAt isLong words c + cellSize isLong words c
+pub cell-next : (isLong : Bool) (words c : ℕ) → cellAt isLong words (c + 1) ≡ cellAt isLong words c + cellSize isLong words c
 unfolding cellAt cellSize
 cell-next isLong words c = elim (decLt (c + 1) words) [
   | yes p ↦ (let h : c < words = omega arith in rw (lt-ltb (c + 1) words p, lt-ltb c words h) (word isLong))

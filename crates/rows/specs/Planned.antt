@@ -50,3 +50,14 @@ pub record Fitting (t : Subtable) (w : List ℕ) (wide first count size : ℕ) :
 pub record Fitted (t : Subtable) (w : List ℕ) (r : Columns) : Type 0 where
   pub wide : Fitting t w (r .wide) 0 (r .wide) (wordSize (r .long))
   pub narrow : Fitting t w (r .wide) (r .wide) (r .narrow) (restSize (r .long))
+
+-- the first n kept columns are the first n columns
+pub record Own (w : List ℕ) (wide n : ℕ) : Type 0 where
+  pub each : (j : ℕ) → j < n → columnIn w wide j ≡ j
+
+-- every column is kept where it stands, in a cell of its old size
+pub record KeptWhole (t : Subtable) (w : List ℕ) (r : Columns) : Type 0 where
+  pub long : r .long ≡ t .long
+  pub wide : r .wide ≡ t .words
+  pub all : r .wide + r .narrow ≡ t .columns
+  pub own : Own w (r .wide) (t .columns)
