@@ -2,11 +2,13 @@
 ghost use mathlib.Core.Path.{_≡_};
 ghost use mathlib.Core.List.{map};
 ghost use Prim.Native.Nat.{max};
+ghost use lib.Dec.{eqb};
+ghost use Rattle.lists.specs.Pick.{pick};
 ghost use Rattle.rules.specs.Lists.{inner};
 ghost use Rattle.rules.specs.Columns.{keptDeltas};
 ghost use Rattle.laws.specs.Sizes.{size, columnSize};
 ghost use Rattle.readers.specs.Opened.{Opened};
-ghost use Rattle.columns.specs.Tally.{numberOfSize};
+ghost use Rattle.columns.specs.Tally.{numberOfSize, Decides};
 use readers::subtable::Subtable;
 
 // How large a delta is, or the largest of a column: 0; in -128..127; in -32768..32767; in -65536..65535; outside.
@@ -69,20 +71,32 @@ impl Column {
     }
 }
 
-// The kept deltas of a column, tallied one after the other. A cell of 1, 2 or 4 bytes holds no delta of a larger size than
-// number 1, 2 or 4, so the first delta of that size ends the tally.
-pub fn column_size(s: &[u8], t: Subtable, pairs: &[u32], column: usize) -> Size
-    requires { ⌜ Opened (now s) t ⌝ }
-    ensures { λ r. ⌜ numberOfSize r ≡ columnSize (keptDeltas (now (s .entry)) (t .at) (map (λ p. inner p) (now (pairs .entry))) column) ⌝ }
+// The number of the size at which a column's tally may end, by the bytes of its cells. A cell of 1, 2 or 4 bytes holds no delta of a
+// larger size than number 1, 2 or 4; and where long is kept, a column of cells of 2 bytes is narrow for any delta but 0.
+fn enough(long: bool, cell: usize) -> usize
+    ensures { λ r. ⌜ r ≡ pick long (pick (eqb cell 2) 1 cell) cell ⌝ }
 {
-    let most = readers::subtable::cell_size(t.long, t.words, column);
+    if long {
+        if cell == 2 { 1 } else { cell }
+    } else {
+        cell
+    }
+}
+
+// The kept deltas of a column, tallied one after the other until the column is decided.
+pub fn column_size(s: &[u8], t: Subtable, pairs: &[u32], column: usize, long: bool) -> Size
+    requires { ⌜ Opened (now s) t ⌝ }
+    ensures { λ r. ⌜ Decides long (numberOfSize r) (columnSize (keptDeltas (now (s .entry)) (t .at) (map (λ p. inner p) (now (pairs .entry))) column)) ⌝ }
+{
+    let cell = readers::subtable::cell_size(t.long, t.words, column);
+    let end = enough(long, cell);
     let mut tally = Column { size: Size::Zero };
     let mut k = 0;
     while k < pairs.len() {
         let item = (pairs[k] % 65536) as usize;
         tally = tally.take(readers::subtable::delta_of(s, t, item, column));
         let size = tally.size;
-        if number(size) as usize == most {
+        if number(size) as usize >= end {
             return size;
         }
         k += 1;
