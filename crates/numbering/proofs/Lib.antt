@@ -1,7 +1,8 @@
 pub mod Ids
 pub mod Pairs
 pub mod Marks
-pub mod Fresh
+pub mod Spots
+pub mod Batches
 pub mod Grown
 pub mod Starts
 pub mod Ordered

@@ -1,5 +1,5 @@
 -- Laws of the pairs that maps give to glyphs.
-use Prim.Native.Nat.{ℕ, zero, suc, _+_, _*_, _/_, _%_, _<_, _≤_}
+use Prim.Native.Nat.{ℕ, zero, suc, _+_, _^_, _<_, _≤_}
 use mathlib.Core.Path.{_≡_, refl, sym, ap, _∙_}
 use mathlib.Core.Bool.{Bool, true, false}
 use mathlib.Core.List.{List, [], _∷_, _++_, map, append-nil}
@@ -23,7 +23,7 @@ use Rattle.rules.specs.TableCut.{badMaps}
 use Rattle.readers.specs.declared.map.Map.{Map}
 use Rattle.readers.specs.declared.map.Pair.{Pair}
 use Rattle.readers.specs.Opened.{OpenedMap}
-use Rattle.numbering.specs.Pairs.{pairAt, pairsAt, Sourced, Paired}
+use Rattle.numbering.specs.Pairs.{pairAt, pairsAt, Paired}
 use Rattle.lists.proofs.Anys.{any-append}
 use Rattle.lists.proofs.Left.{any-map}
 
@@ -39,6 +39,11 @@ paired-present t {m} g r n o i =
     let few = pow-mono {i = innerBits t (m .at)} {j = 16} (rw (← r .bits) (r .few)) in
     let low = mod-lt (entry t (m .at) g) (pow-pos (innerBits t (m .at))) in
     record { is = rw (differ-yes (m .at) 0 n, o, i); small = rw i (omega (arith, few, low)) }
+
+-- an inner of so many bits
+pub inner-narrow : (t : List ℕ) (at g : ℕ) {i v : ℕ} → i ≡ innerOf t at g → 2 ^ innerBits t at ≤ v → i < v
+unfolding innerOf
+inner-narrow t at g e h = omega (arith, mod-lt (entry t at g) (pow-pos (innerBits t at)))
 
 pub outer-is : {pair : ℕ} {p : Pair} → Paired pair p → outer pair ≡ p .outer
 outer-is {pair} p = omega (arith, p .is, p .small)
