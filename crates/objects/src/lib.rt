@@ -157,7 +157,6 @@ pub fn put_subtables(out: &mut [u8], work: &mut [u32], s: &[u8], n: usize)
     requires { ⌜ length (now out) ≡ sum (sizes (now s) (runs (take n (now work)))) ⌝ }
     ensures { λ _. ⌜ now (out .exit) ≡ flat (λ run. subtableBytes (now (s .entry)) (usedRegions (now (s .entry)) (runs (take n (now (work .entry))))) run)
         (runs (take n (now (work .entry)))) ⌝ }
-    ensures { λ _. ⌜ take 12288 (now (work .exit)) ≡ take 12288 (now (work .entry)) ⌝ }
 {
     let mut next = 0;
     let mut at = 0;

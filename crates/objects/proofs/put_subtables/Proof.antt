@@ -57,7 +57,7 @@ returns : tie.Need-returns Inv-loop μ-loop
 returns c =
     let s = c .before .before .before .before .before in
     let l = c .before .loop in
-    (going-all (s .pre .0) (l .inv .2) (search needs), l .inv .2 .same)
+    going-all (s .pre .0) (l .inv .2) (search needs)
 
 pub put-subtables-spec : {M : Type 1} → statement M
 put-subtables-spec =

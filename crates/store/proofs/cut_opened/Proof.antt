@@ -46,7 +46,7 @@ returns-5 c =
     let p = rw (c .before .before .before .before .before .before .before .before .before .l .given .1) at (k .0) in
     let n = c .before .before .before .before .before .before .before .before .before .l .given .0 .0 .length in
     let e = front-same (c .before .before .before .before .before .before .before .before .before .before .before .before .before .plan-store .last .0) (now (s .args .work)) 8704 (k .1) (s .args .n) (omega arith) in
-    let b = rw e at (c .before .before .before .before .put-store .ensures .0) in
+    let b = rw e at (c .before .before .before .before .put-store .ensures) in
     fit-written _ (p .0) (p .1 .whole) (omega arith) (put-next (now (s .args .out)) [] _ 0 n refl refl (omega arith) b refl)
 
 pub cut-opened-spec : {M : Type 1} → statement M

@@ -3,7 +3,6 @@ use native.Mathlib.Omega.{arith}
 use lib.ListN.{length-take, length-drop}
 use denote.Ref.{now}
 use borrow.Author.Needs.{needs}
-use Rattle.lists.proofs.Cuts.{front-same}
 use Rattle.store.proofs.Laying.{ready-total, ready-fits, ready-marked, ready-few, ready-noted, store-laid}
 use Rattle.store.proofs.put_store.Statement.{statement}
 use Rattle.store.proofs.put_store.Tie as tie
@@ -70,10 +69,7 @@ returns : tie.Need-returns
 returns c =
     let s = c .before .before .before .before .before .before .before .before .before .before .before .before .before .before .before .before .before .before .before .before .before .before .before .before .before in
     let e = c .before .before .before .before .before .before .before .before .before .before .before .before .before .before .before .before .before .before .before .before .before .list-length .ensures .0 in
-    let k = c .before .before .before .before .put-subtables .ensures in (
-      store-laid (s .pre .0) (now (s .args .out)) _ _ refl (omega (arith, e)) (s .pre .1) (c .before .before .before .before .before .before .before .before .before .before .before .before .before .before .before .before .before .before .before .put-header .ensures) (c .before .before .before .before .before .before .before .before .before .before .before .before .before .before .put-offsets .ensures) (c .before .before .before .before .before .before .before .before .before .put-region-list .ensures) (k .0),
-      front-same (c .before .before .before .before .put-subtables .last .1 .0) (now (s .args .work)) 12288 (k .1) 8704 (omega arith),
-    )
+    store-laid (s .pre .0) (now (s .args .out)) _ _ refl (omega (arith, e)) (s .pre .1) (c .before .before .before .before .before .before .before .before .before .before .before .before .before .before .before .before .before .before .before .put-header .ensures) (c .before .before .before .before .before .before .before .before .before .before .before .before .before .before .put-offsets .ensures) (c .before .before .before .before .before .before .before .before .before .put-region-list .ensures) (c .before .before .before .before .put-subtables .ensures)
 
 pub put-store-spec : {M : Type 1} → statement M
 put-store-spec =

@@ -20,8 +20,7 @@ put-store-requires c κs =
 returns-2 : tie.Need-returns-2
 returns-2 c =
     let a = c .before .before .before .before .before .before .before .before .before .before .before .before .before in
-    let put = c .before .before .before .before .put-store .ensures in
-    put .0 ∙ sym (ap (λ (q : Planned). storeKept (now (a .args .s)) (take (a .args .n) (now (a .args .work))) q) (c .before .before .before .before .before .before .before .before .planned .given .1))
+    c .before .before .before .before .put-store .ensures ∙ sym (ap (λ (q : Planned). storeKept (now (a .args .s)) (take (a .args .n) (now (a .args .work))) q) (c .before .before .before .before .before .before .before .before .planned .given .1))
 
 returns-3 : tie.Need-returns-3
 returns-3 c = absurd (kept-never (c .before .before .before .before .before .pre) (c .enum-told2 .given .1))
