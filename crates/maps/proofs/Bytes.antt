@@ -29,7 +29,7 @@ use Rattle.laws.specs.Packed.{map-length}
 use Rattle.rules.specs.Maps.{MapPlan as PlanOf}
 use Rattle.readers.proofs.Maps.{shifted-one}
 use Rattle.maps.specs.declared.MapPlan.{MapPlan}
-use Rattle.numbering.specs.Pairs.{pairAt}
+use Rattle.sources.specs.Pairs.{pairAt}
 use Rattle.maps.specs.Plans.{keptIn, headOf, entryPiece, entriesOf, Ready, EntriesFit, MapPlanned, lengthOf}
 use Rattle.maps.proofs.Plans.{kept-at, packs}
 use Rattle.maps.proofs.Ahead.{Ahead, ahead-none, Turn}

@@ -24,9 +24,9 @@ use Rattle.laws.specs.Glyphs.{good-glyphs}
 use Rattle.laws.specs.Kept.{kept-member}
 use Rattle.laws.specs.Packed.{Packed, AllKept, packed}
 use Rattle.readers.specs.declared.map.Pair.{Pair}
-use Rattle.numbering.specs.Pairs.{pairAt, Paired}
+use Rattle.sources.specs.Pairs.{pairAt, Paired}
 use Rattle.numbering.specs.Numbered.{Among, Numbered, Renumbered, Checked}
-use Rattle.numbering.proofs.Pairs.{map-good}
+use Rattle.sources.proofs.Pairs.{map-good}
 use Rattle.maps.specs.Plans.{keptIn, largestAt, Kept, Ready, Bounds, MapPlanned}
 
 -- a map of a table that passed its checks, with its kept pairs collected

@@ -17,7 +17,7 @@ use Rattle.rules.specs.Numbering.{present, counts, pairOf, newInner}
 use Rattle.rules.specs.Maps.{isWritten, mapPlan, entrySize, newEntry, entryAt}
 use Rattle.laws.specs.Glyphs.{Glyphs}
 use Rattle.maps.specs.declared.MapPlan.{MapPlan}
-use Rattle.numbering.specs.Pairs.{pairAt}
+use Rattle.sources.specs.Pairs.{pairAt}
 use Rattle.numbering.specs.Numbered.{Numbered}
 
 -- the kept items of the used subtables

@@ -10,17 +10,17 @@ ghost use Rattle.cells.specs.Be.{Wrote};
 ghost use Rattle.opentype.specs.Map.{outerBits};
 ghost use Rattle.rules.specs.Lists.{newId, oldId};
 ghost use Rattle.rules.specs.Maps.{countOf, bitsFor, newEntry, mapBytes};
-ghost use Rattle.numbering.specs.Pairs.{pairAt, Sourced};
+ghost use Rattle.sources.specs.Pairs.{pairAt, Sourced};
 ghost use Rattle.numbering.specs.Numbered.{Numbered};
 ghost use Rattle.maps.specs.Plans.{keptIn, largestAt, headOf, entriesOf, Kept, Ready, EntriesFit, Bounds, MapPlanned, lengthOf};
 
 pub mod limit;
 
-use numbering::numbers::renumbered;
-use numbering::sources::counts;
-use numbering::sources::glyph_pair;
-use numbering::sources::source_of;
+use numbering::renumbered;
 use readers::map::Map;
+use sources::named::counts;
+use sources::named::glyph_pair;
+use sources::named::source_of;
 
 // What is decided for a map before it is written: its count of entries, the bits of an inner number, an entry's bytes.
 pub struct MapPlan {

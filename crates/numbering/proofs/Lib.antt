@@ -1,13 +1,5 @@
-pub mod Ids
-pub mod Pairs
-pub mod Marks
-pub mod Spots
-pub mod Batches
-pub mod Grown
 pub mod Starts
-pub mod Ordered
 pub mod Once
-pub mod Index
-pub mod Collecting
+pub mod Indexing
 pub mod Renumber
 pub mod Kept

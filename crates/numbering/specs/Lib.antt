@@ -1,3 +1,1 @@
-pub mod Pairs
-pub mod Marks
 pub mod Numbered

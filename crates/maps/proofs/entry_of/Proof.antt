@@ -4,7 +4,7 @@ use native.Mathlib.Omega.{arith}
 use denote.Ref.{now}
 use Rattle.rules.specs.Lists.{oldId}
 use Rattle.rules.specs.Maps.{newEntry}
-use Rattle.numbering.specs.Pairs.{pairAt}
+use Rattle.sources.specs.Pairs.{pairAt}
 use Rattle.maps.specs.Plans.{keptIn}
 use Rattle.maps.proofs.Plans.{kept-parts, renumbered-is}
 use Rattle.maps.proofs.Bytes.{entry-is}

@@ -1,5 +1,5 @@
 use mathlib.Core.Path.{sym, _∙_}
-use Rattle.numbering.specs.Pairs.{pairAt}
+use Rattle.sources.specs.Pairs.{pairAt}
 use Rattle.maps.proofs.Counts.{Alike, alike-last, alike-more, count-all, count-found}
 use borrow.Author.Needs.{needs}
 use Rattle.maps.proofs.last_run.Statement.{statement}

@@ -3,7 +3,7 @@ use denote.Ref.{now}
 use borrow.Author.Needs.{needs}
 use Rattle.rules.specs.Lists.{oldId}
 use Rattle.rules.specs.Numbering.{newInner}
-use Rattle.numbering.specs.Pairs.{pairAt}
+use Rattle.sources.specs.Pairs.{pairAt}
 use Rattle.maps.specs.Plans.{keptIn}
 use Rattle.maps.proofs.Plans.{kept-parts, renumbered-is, under-limit}
 use Rattle.maps.proofs.Most.{Most, most-none, most-more, most-under, most-end, bits-full, bits-all}
