@@ -2,7 +2,8 @@
 // A pair's place in the list is guessed by an index: ascending pairs as bits, a segment for each outer, and one for the pairs of outer 0
 // that stand behind those that come first. A guess is checked in the list, so nothing is said of what the index holds.
 //    9,088   by segment, outers first, the word where it starts
-//   12,288   the words of one segment behind those of the other, modulo 2,048: its inners as bits
+//    9,345   the shift: a bit is for 2^shift inners
+//   12,288   the words of one segment behind those of the other, modulo 2,048: its inners, shifted, as bits
 //   14,336   by word, the place of the first pair in it
 ghost use mathlib.Core.Path.{_≡_};
 ghost use mathlib.Core.Bool.{true, false};
@@ -24,10 +25,18 @@ fn segment_at(last: u32, pair: u32) -> usize
     (pair / 65536) as usize
 }
 
+// A pair's place among the bits of its segment.
+fn spot_of(pair: u32, shift: u32) -> usize
+    requires { ⌜ shift < 16 ⌝ }
+    ensures { λ r. ⌜ r < 65536 ⌝ }
+{
+    ((pair % 65536) >> shift) as usize
+}
+
 // Where the words of a pair's segment start. If the pair begins one, that is behind the last pair's word, and is noted.
-fn start_words(work: &mut [u32], start: usize, last: u32, pair: u32) -> usize
-    requires { ⌜ (length (now work) ≡ 16384) × (start < 2048) × (outer pair < 256) ⌝ }
-    ensures { λ r. ⌜ r < 2048 ⌝ }
+fn start_words(work: &mut [u32], start: usize, last: u32, pair: u32, shift: u32) -> usize
+    requires { ⌜ (length (now work) ≡ 16384) × (start ≤ 16777216) × (outer pair < 256) × (shift < 16) ⌝ }
+    ensures { λ r. ⌜ r ≤ start + 2048 ⌝ }
     ensures { λ _. ⌜ take 9088 (now (work .exit)) ≡ take 9088 (now (work .entry)) ⌝ }
 {
     let segment = segment_at(last, pair);
@@ -36,39 +45,63 @@ fn start_words(work: &mut [u32], start: usize, last: u32, pair: u32) -> usize
             return start;
         }
     }
-    let next = (start + (last % 65536) as usize / 32 + 1) % 2048;
+    let next = start + spot_of(last, shift) / 32 + 1;
     work[9088 + segment] = next as u32;
     next
 }
 
 // Notes the pair that stands at k in the list.
-fn note_pair(work: &mut [u32], start: usize, pair: u32, k: usize)
-    requires { ⌜ (length (now work) ≡ 16384) × (start < 2048) × (k < 8192) ⌝ }
+fn note_pair(work: &mut [u32], start: usize, pair: u32, k: usize, shift: u32)
+    requires { ⌜ (length (now work) ≡ 16384) × (start ≤ 16777216) × (k < 8192) × (shift < 16) ⌝ }
     ensures { λ _. ⌜ take 9088 (now (work .exit)) ≡ take 9088 (now (work .entry)) ⌝ }
 {
-    let word = (start + (pair % 65536) as usize / 32) % 2048;
+    let spot = spot_of(pair, shift);
+    let word = (start + spot / 32) % 2048;
     let bits = work[12288 + word];
-    work[12288 + word] = bits | (1u32 << (pair % 32));
+    work[12288 + word] = bits | (1u32 << (spot % 32));
     if bits == 0 {
         work[14336 + word] = k as u32;
     }
 }
 
-// Makes the index of the n kept pairs.
-pub fn index(work: &mut [u32], n: usize)
+// Makes the index of the n kept pairs, a bit for 2^shift inners; gives the word behind those of the last segment.
+fn index_by(work: &mut [u32], n: usize, shift: u32) -> usize
     requires { ⌜ Numbered (now work) n ⌝ }
+    requires { ⌜ shift < 16 ⌝ }
+    ensures { λ r. ⌜ r ≤ 16779264 ⌝ }
     ensures { λ _. ⌜ take 9088 (now (work .exit)) ≡ take 9088 (now (work .entry)) ⌝ }
 {
     bits::clear(&mut work[12288..14336], 2048);
+    work[9345] = shift;
     let mut start = 0;
     let mut last: u32 = 4294967295;
     let mut k = 0;
     while k < n {
         let pair = work[k];
-        start = start_words(work, start, last, pair);
-        note_pair(work, start, pair, k);
+        start = start_words(work, start, last, pair, shift);
+        note_pair(work, start, pair, k, shift);
         last = pair;
         k += 1;
+    }
+    start + spot_of(last, shift) / 32 + 1
+}
+
+// A shift with which segments that end there find room.
+fn shift_for(end: usize) -> u32
+    requires { ⌜ end ≤ 16779264 ⌝ }
+    ensures { λ r. ⌜ r < 16 ⌝ }
+{
+    bits::inner_bits((end / 2048) as u32) % 16
+}
+
+// Makes the index. The first segment starts at 2,048, so past 4,096 words would stand on others: then a bit is for several inners.
+pub fn index(work: &mut [u32], n: usize)
+    requires { ⌜ Numbered (now work) n ⌝ }
+    ensures { λ _. ⌜ take 9088 (now (work .exit)) ≡ take 9088 (now (work .entry)) ⌝ }
+{
+    let end = index_by(work, n, 0);
+    if 4096 < end {
+        index_by(work, n, shift_for(end));
     }
 }
 
@@ -80,12 +113,14 @@ fn ones_below(word: u32, bit: usize) -> usize
     u32::count_ones(word % (1u32 << bit)) as usize
 }
 
-// Where a pair stands by the index, if it stands in the segment.
-fn guess(work: &[u32], segment: usize, inner: usize) -> usize
+// Where a pair stands by the index, if it stands in the segment: there, or a little behind where a bit is for several inners.
+fn guess(work: &[u32], segment: usize, inner: u32) -> usize
     requires { ⌜ (length (now work) ≡ 16384) × (segment ≤ 256) × (inner < 65536) ⌝ }
+    ensures { λ r. ⌜ r ≤ 8589934592 ⌝ }
 {
-    let word = (work[9088 + segment] as usize + inner / 32) % 2048;
-    work[14336 + word] as usize + ones_below(work[12288 + word], inner % 32)
+    let spot = spot_of(inner, work[9345] % 16);
+    let word = (work[9088 + segment] as usize + spot / 32) % 2048;
+    work[14336 + word] as usize + ones_below(work[12288 + word], spot % 32)
 }
 
 // The check of a guess: no number stands twice among the first n, so one that stands at h has its place there.
@@ -97,6 +132,25 @@ fn stands_at(list: &[u32], n: usize, h: usize, x: u32) -> bool
         return list[h] == x;
     }
     false
+}
+
+// The place of a number that stands at h or less than 32 behind it; n where it doesn't.
+fn place_near(list: &[u32], n: usize, h: usize, x: u32) -> usize
+    requires { ⌜ (n ≤ length (now list)) × (twice (take n (now list)) ≡ false) ⌝ }
+    requires { ⌜ h ≤ 8589934592 ⌝ }
+    ensures { λ r. ⌜ (r < n → r ≡ place x (take n (now (list .entry)))) ⌝ }
+{
+    let mut i = h;
+    while i < n {
+        if list[i] == x {
+            return i;
+        }
+        if h + 31 <= i {
+            return n;
+        }
+        i += 1;
+    }
+    n
 }
 
 // The place of a number among those from one index up to another.
@@ -115,14 +169,14 @@ fn place_among(list: &[u32], from: usize, to: usize, x: u32) -> usize
     i - from
 }
 
-// The place of a kept pair in the list: the first of the guesses that stands, or else what a walk through its run finds.
+// The place of a kept pair in the list: the first of the guesses that stands, or a place near the first, or else what a walk through its run finds.
 fn place_of(work: &[u32], n: usize, p: Pair) -> usize
     requires { ⌜ Numbered (now work) n ⌝ }
     requires { ⌜ Among (take n (now work)) p ⌝ }
     ensures { λ r. ⌜ r ≡ place (p .outer * 65536 + p .inner) (take n (now (work .entry))) ⌝ }
 {
     let outer = p.outer as usize;
-    let inner = p.inner as usize;
+    let inner = p.inner;
     let pair = p.outer * 65536 + p.inner;
     let first = guess(work, outer, inner);
     if stands_at(work, n, first, pair) {
@@ -131,6 +185,10 @@ fn place_of(work: &[u32], n: usize, p: Pair) -> usize
     let second = guess(work, 256, inner);
     if stands_at(work, n, second, pair) {
         return second;
+    }
+    let near = place_near(work, n, first, pair);
+    if near < n {
+        return near;
     }
     let from = work[8192 + outer] as usize;
     from + place_among(work, from, n, pair)

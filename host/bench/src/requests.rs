@@ -66,13 +66,14 @@ fn store(random: &mut Random, subtables: usize, rows: usize, columns: usize, lon
     out
 }
 
-/// A map of glyphs into subtables with these many rows: 2 bytes an entry, 12 bits for the row.
+/// A map of glyphs into subtables with these many rows: 2 bytes an entry, 12 bits for the row; or 3 and 16.
 fn map(random: &mut Random, glyphs: usize, subtables: usize, rows: usize) -> Vec<u8> {
-    let mut out = vec![0, 0x1B];
+    let (size, bits) = if rows <= 4096 { (2, 12) } else { (3, 16) };
+    let mut out = vec![0, (size as u8 - 1) << 4 | (bits - 1)];
     put(&mut out, glyphs, 2);
     for _ in 0..glyphs {
         let (outer, inner) = (random.below(subtables as u64), random.below(rows as u64));
-        put(&mut out, (outer << 12 | inner) as usize, 2);
+        put(&mut out, (outer << bits | inner) as usize, size);
     }
     out
 }
@@ -115,8 +116,11 @@ pub fn made() -> Vec<Request> {
     add("VVAR, 4 maps, 600 of 1,200", Kind::Vvar, table(&four, 4, &maps), half(1200));
     let most = store(random, 4, 2048, 8, false);
     let maps: Vec<_> = (0..3).map(|_| map(random, 2048, 4, 2048)).collect();
-    let all_glyphs = (0..2048).map(|id| id << 16 | id).collect();
-    add("HVAR, 3 maps, 2,048 glyphs, 4 x 2,048 rows", Kind::Hvar, table(&most, 3, &maps), all_glyphs);
+    let all_glyphs: Vec<u32> = (0..2048).map(|id| id << 16 | id).collect();
+    add("HVAR, 3 maps, 2,048 glyphs, 4 x 2,048 rows", Kind::Hvar, table(&most, 3, &maps), all_glyphs.clone());
+    let far = store(random, 3, 65535, 2, false);
+    let maps: Vec<_> = (0..3).map(|_| map(random, 2048, 3, 65535)).collect();
+    add("HVAR, 3 maps, 2,048 glyphs, 3 x 65,535 rows", Kind::Hvar, table(&far, 3, &maps), all_glyphs);
     add("P1", Kind::Store, P1_STORE.to_vec(), vec![0, 2]);
     all
 }

@@ -1,5 +1,5 @@
-use Rattle.numbering.proofs.Indexing.{start-noted}
 use borrow.Author.Needs.{needs}
+use Rattle.numbering.proofs.Indexing.{start-noted}
 use Rattle.numbering.proofs.start_words.Statement.{statement}
 use Rattle.numbering.proofs.start_words.Tie as tie
 
@@ -9,7 +9,7 @@ start-words-spec =
     (tie.spec
     (λ c κs. search needs)
     (λ c. search needs)
-    (λ c. search needs)
+    (λ c κs. search needs)
     (λ c. search needs)
     (λ c. search needs)
     (λ c. search needs)
