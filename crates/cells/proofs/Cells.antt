@@ -5,10 +5,10 @@ use Prim.Native.Nat.{ℕ, zero, suc, _+_, _*_, _/_, _%_, _^_, _≤_, _<_}
 use native.Mathlib.Nat.{add-zero, zero-add, add-suc, suc-add, add-assoc, add-mul, mul-assoc, zero-lt-suc}
 use native.Mathlib.Nat.{pow-suc, pow-succ', one-le-pow, div-div-eq-div-mul, div-one, mod-eq-of-lt}
 use native.Mathlib.Omega.{arith}
-use lib.Arith.{digits-lt, mod-mul}
+use lib.Arith.{digits-lt, digits-div, digits-mod, mod-mul}
 use lib.Pow.{pow-add}
-use lib.ListN.{length, getD, set, take, drop, length-append, length-set, List·getD-append}
-use lib.Seq.{sets, sets-eq, getD-append-add, getD-at, getD-set-same, getD-set-other, getD-take, getD-drop}
+use lib.ListN.{length, getD, set, take, drop, length-append, length-set, length-drop, List·getD-append}
+use lib.Seq.{sets, sets-eq, take-suc, getD-append-add, getD-at, getD-set-same, getD-set-other, getD-take, getD-drop}
 use Rattle.cells.specs.Be.{be, beBytes, Cell, Wrote}
 
 -- ---- reading
@@ -145,3 +145,11 @@ read-back {l} {n} {i} w v p h =
 pub read-back-fit : {l n : List ℕ} {i : ℕ} (w v : ℕ) → Wrote l i (beBytes w v) n → i + w ≤ length l → v < 256 ^ w
     → be w n i ≡ v
 read-back-fit w v p h f = read-back w v p h ∙ mod-eq-of-lt f
+
+-- a number read from its bytes is written as these
+pub read-written : (w : ℕ) (s : List ℕ) (at : ℕ) → ((i : ℕ) → getD s i 0 < 256) → at + w ≤ length s → beBytes w (be w s at) ≡ take w (drop at s)
+unfolding be beBytes
+read-written zero s at small h = refl
+read-written (suc w) s at small h =
+    let l : w < length (drop at s) = rw length-drop (omega arith) in
+    rw (digits-div (be w s at) (small (at + w)), digits-mod (be w s at) (small (at + w)), read-written w s at small (omega arith), take-suc (drop at s) w 0 l, getD-drop)

@@ -5,17 +5,21 @@ use mathlib.Core.Bool.{Bool, true, false}
 use mathlib.Core.List.{List, [], _∷_, _++_, map, append-nil}
 use native.Mathlib.Omega.{arith}
 use native.Mathlib.Nat.{zero-mul, suc-mul, mul-le-mul-right}
-use lib.ListN.{length, take, drop, length-append, length-drop}
+use lib.ListN.{length, getD, take, drop, length-append, length-drop}
 use lib.Seq.{length-take-le}
+use mir.Val.{ofZ}
+use mir.Syntax.{w32}
 use Rattle.lists.specs.Pick.{pick}
 use Rattle.lists.specs.Gather.{flat, select, rank}
 use Rattle.lists.proofs.Pieces.{flat-append}
 use Rattle.lists.proofs.Places.{length-select}
 use Rattle.lists.proofs.Members.{length-map}
+use Rattle.lists.proofs.Stands.{length-flat}
 use Rattle.cells.specs.Be.{beBytes}
+use Rattle.cells.specs.Sign.{signedBytes}
 use Rattle.cells.proofs.Cells.{length-beBytes}
 use Rattle.opentype.specs.Store.{subtableAt, regionsAt, axisCount, regionCount, recordLength, regionRecord}
-use Rattle.opentype.specs.Subtable.{regionIndex}
+use Rattle.opentype.specs.Subtable.{wordSize, restSize, regionIndex, delta}
 use Rattle.rules.specs.Lists.{Run}
 use Rattle.rules.specs.Columns.{Plan, planOf, order}
 use Rattle.rules.specs.Regions.{isUsed, usedRegions, newRegion, regionListBytes}
@@ -28,6 +32,26 @@ sum (x ∷ xs) = x + sum xs
 
 -- ---- a subtable
 
+-- the length of a plan's rows
+abbrev pub planLength : Plan → ℕ
+planLength p = length (p .wide) * wordSize (p .isLong) + length (p .narrow) * restSize (p .isLong)
+
+-- cells of one size
+pub length-cells : (s : List ℕ) (at i n : ℕ) (cs : List ℕ) → length (flat (λ c. signedBytes n (delta s at i c)) cs) ≡ length cs * n
+length-cells s at i n cs = length-flat (λ c. signedBytes n (delta s at i c)) 0 cs n (λ k h. length-beBytes n (ofZ w32 (delta s at i (getD cs k 0))))
+
+pub length-row : (s : List ℕ) (at : ℕ) (p : Plan) (i : ℕ) → length (rowBytes s at p i) ≡ planLength p
+unfolding rowBytes
+length-row s at p i = rw (length-append, length-cells s at i (wordSize (p .isLong)) (p .wide), length-cells s at i (restSize (p .isLong)) (p .narrow))
+
+pub length-planned : (s : List ℕ) (at : ℕ) (used is : List ℕ) (p : Plan) → length (plannedBytes s at used is p) ≡ 6 + 2 * length (order p) + length is * planLength p
+unfolding plannedBytes
+length-planned s at used is p =
+    let indexes = length-flat (λ c. beBytes 2 (newRegion used (regionIndex s at c))) 0 (order p) 2
+    (λ k h. length-beBytes 2 (newRegion used (regionIndex s at (getD (order p) k 0)))) in
+    let rows = length-flat (λ i. rowBytes s at p i) 0 is (planLength p) (λ k h. length-row s at p (getD is k 0)) in
+    simp (length-append, length-beBytes, indexes, rows) (omega arith)
+
 -- the bytes of a written subtable: they don't turn on the regions' new numbers
 unfoldable pub sizeAt : List ℕ → ℕ → List ℕ → ℕ
 sizeAt s at is = length (plannedBytes s at [] is (planOf s at is))
@@ -35,17 +59,9 @@ sizeAt s at is = length (plannedBytes s at [] is (planOf s at is))
 unfoldable pub sizes : List ℕ → List Run → List ℕ
 sizes s rs = map (λ run. sizeAt s (subtableAt s (run .outer)) (run .inners)) rs
 
-flat-alike : {A : Type 0} (f g : A → List ℕ) → ((x : A) → length (f x) ≡ length (g x)) → (xs : List A) → length (flat f xs) ≡ length (flat g xs)
-unfolding flat
-flat-alike f g h [] = refl
-flat-alike f g h (x ∷ xs) = rw (length-append, length-append, h x, flat-alike f g h xs)
-
 pub planned-size : (s : List ℕ) (at : ℕ) (used is : List ℕ) → length (plannedBytes s at used is (planOf s at is)) ≡ sizeAt s at is
-unfolding plannedBytes sizeAt
-planned-size s at used is =
-    let p = planOf s at is in
-    let e = flat-alike (λ c. beBytes 2 (newRegion used (regionIndex s at c))) (λ c. beBytes 2 (newRegion [] (regionIndex s at c))) (λ c. length-beBytes 2 _ ∙ sym (length-beBytes 2 _)) (order p) in
-    simp (length-append, e)
+unfolding sizeAt
+planned-size s at used is = length-planned s at used is (planOf s at is) ∙ sym (length-planned s at [] is (planOf s at is))
 
 -- ---- the store
 

@@ -14,6 +14,7 @@ pub mod Copies
 pub mod Cuts
 pub mod Writes
 pub mod Laid
+pub mod Fronts
 pub mod Stored
 pub mod Stands
 pub mod Gathered

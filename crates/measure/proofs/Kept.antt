@@ -6,7 +6,7 @@ use mathlib.Core.List.{List, [], _∷_, _++_}
 use mathlib.Core.Logic.{⊎-elim}
 use native.Mathlib.Omega.{arith}
 use native.Mathlib.Nat.{mul-le-mul-left, not-suc-le-zero, eq-or-lt-of-le, le-of-suc-le-suc}
-use lib.ListN.{length, getD, drop, length-drop, List·getD-append}
+use lib.ListN.{length, getD, drop, length-drop, length-append, List·getD-append}
 use lib.Seq.{getD-at, length-take-le}
 use lib.Dec.{leb, ltb}
 use borrow.Author.Tests.{lt-leb, leb-false}
@@ -23,11 +23,10 @@ use Rattle.rules.specs.Lists.{inner}
 use Rattle.readers.specs.Opened.{Opened}
 use Rattle.readers.specs.declared.subtable.Subtable.{Subtable}
 use Rattle.laws.specs.Live.{any-order, some-kept}
-use Rattle.laws.specs.Lengths.{sizeAt, planned-size}
-use Rattle.rows.proofs.Subtables.{length-planned}
+use Rattle.laws.specs.Lengths.{sizeAt, length-planned}
 use Rattle.rows.specs.declared.Columns.{Columns}
 use Rattle.rows.specs.Area.{part, items, columnIn, columnsIn}
-use Rattle.rows.specs.Written.{plannedLength}
+use Rattle.rows.specs.Length.{plannedLength}
 use Rattle.rows.specs.Planned.{Planned, Inside}
 
 module _ {s : List ℕ} {at : ℕ} {is w : List ℕ} {r : Columns} (p : Planned s at is w r) where
@@ -53,7 +52,8 @@ module _ {s : List ℕ} {at : ℕ} {is w : List ℕ} {r : Columns} (p : Planned 
   live-kept = rw (p .wide, p .narrow) (some-kept s at is)
 
   pub planned-length : plannedLength (r .long) (r .wide) (r .narrow) (length is) ≡ sizeAt s at is
-  planned-length = sym (length-planned [] p) ∙ planned-size s at [] is
+  unfolding plannedLength sizeAt
+  planned-length = sym (length-planned s at [] is (planOf s at is) ∙ rw (length-append, ← p .long, ← p .wide, ← p .narrow))
 
 -- ---- sizes
 

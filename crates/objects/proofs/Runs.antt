@@ -32,8 +32,9 @@ use Rattle.rows.specs.declared.Columns.{Columns}
 use Rattle.readers.specs.declared.subtable.Subtable.{Subtable}
 use Rattle.readers.specs.Opened.{Whole}
 use Rattle.rows.specs.Area.{part, items, usedIn, usedOf, columnIn}
-use Rattle.rows.specs.Written.{plannedLength}
-use Rattle.rows.specs.Planned.{Planned, Named}
+use Rattle.rows.specs.Length.{plannedLength}
+use Rattle.rows.specs.Planned.{Planned}
+use Rattle.subtables.specs.Kept.{Named}
 use Rattle.measure.proofs.Kept.{no-kept, a-kept, planned-length, length-items}
 use Rattle.objects.specs.Runs.{runIn, namesNone, RunReady}
 use Rattle.objects.proofs.Filled.{Filled, filled-none, filled-room, filled-more, filled-all}

@@ -28,9 +28,9 @@ use plan::list_length;
 use plan::regions_at;
 use readers::subtable::Subtable;
 use readers::subtable::row_length;
-use rows::copy;
 use rows::plan_columns;
-use rows::put_subtable;
+use subtables::put_subtable;
+use subtables::whole::copy;
 
 // The 8 bytes of a header: format 1, the place of the region list, how many subtables.
 pub fn put_header(out: &mut [u8], list: usize, count: usize)

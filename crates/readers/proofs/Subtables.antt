@@ -116,3 +116,7 @@ module _ {s : List ℕ} {t : Subtable} (o : Opened s t) where
   pub delta-no-column : (item column : ℕ) → item < t .items → t .columns ≤ column → pos 0 ≡ delta s (t .at) item column
   unfolding delta
   delta-no-column item column h k = rw (← o .items, ← o .columns, lt-leb _ _ h, le-leb _ _ k)
+
+-- a row ends inside
+pub row-ends : {s : List ℕ} {t : Subtable} → Opened s t → (item : ℕ) → item < t .items → t .rows + item * t .row + t .row ≤ length s
+row-ends {t = t} o item h = omega (arith, row-inside item (t .items) (t .row) h, o .inside)

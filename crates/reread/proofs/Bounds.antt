@@ -24,7 +24,7 @@ use Rattle.reread.proofs.Columns.{order-few}
 use Rattle.reread.proofs.Runs.{few-runs, runs-items, piece-short, pieces-short}
 use Rattle.reread.proofs.Laid.{length-layStore}
 use Rattle.reread.proofs.RegionList.{length-regionList}
-use Rattle.reread.proofs.Subtable.{planLength, length-planned}
+use Rattle.laws.specs.Lengths.{planLength, length-planned}
 use Rattle.reread.proofs.Used.{few-used, used-record}
 
 -- 4 bytes a column at most

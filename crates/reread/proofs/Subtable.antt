@@ -23,11 +23,8 @@ use Rattle.opentype.specs.Subtable.{itemCount, wordField, long, wordCount, colu
 use Rattle.rules.specs.Columns.{Plan, order}
 use Rattle.rules.specs.Regions.{newRegion}
 use Rattle.rules.specs.Rewrite.{rowBytes, newWordField, plannedBytes}
+use Rattle.laws.specs.Lengths.{planLength, length-cells, length-row}
 use Rattle.reread.proofs.Cells.{length-beBytes, be-back, signed-back}
-
--- the length of a plan's rows
-abbrev pub planLength : Plan → ℕ
-planLength p = length (p .wide) * wordSize (p .isLong) + length (p .narrow) * restSize (p .isLong)
 
 -- The deltas of item i fit the cells that a plan gives them.
 pub record Fits (s : List ℕ) (at : ℕ) (p : Plan) (i : ℕ) : Type 0 where
@@ -42,30 +39,12 @@ rest-size : (l : Bool) → Size (restSize l)
 rest-size true = omega arith
 rest-size false = omega arith
 
--- columns of one size
-length-cells : (s : List ℕ) (at i n : ℕ) (cs : List ℕ) → length (flat (λ c. signedBytes n (delta s at i c)) cs) ≡ length cs * n
-length-cells s at i n cs = length-flat (λ c. signedBytes n (delta s at i c)) 0 cs n (λ k h. length-beBytes n (ofZ w32 (delta s at i (getD cs k 0))))
-
+-- a cell among those of one size
 cell-stands : {w : List ℕ} {r : ℕ} (s : List ℕ) (at i n : ℕ) (cs : List ℕ) (c : ℕ) → Size n → c < length cs → mag (delta s at i (getD cs c 0)) < 256 ^ n / 2
     → Stands w r (flat (λ c. signedBytes n (delta s at i c)) cs) → signedAt n w (r + c * n) ≡ delta s at i (getD cs c 0)
 cell-stands s at i n cs c size h fits st =
     signed-back n (delta s at i (getD cs c 0)) size fits
     (stands-piece (λ c. signedBytes n (delta s at i c)) 0 cs n c (λ k l. length-beBytes n (ofZ w32 (delta s at i (getD cs k 0)))) st h)
-
-pub length-row : (s : List ℕ) (at : ℕ) (p : Plan) (i : ℕ)
-    → length (rowBytes s at p i) ≡ planLength p
-unfolding rowBytes
-length-row s at p i = rw (length-append, length-cells s at i (wordSize (p .isLong)) (p .wide), length-cells s at i (restSize (p .isLong)) (p .narrow))
-
-pub length-planned : (s : List ℕ) (at : ℕ) (used is : List ℕ) (p : Plan)
-    → length (plannedBytes s at used is p)
-    ≡ 6 + 2 * length (order p) + length is * planLength p
-unfolding plannedBytes
-length-planned s at used is p =
-    let indexes = length-flat (λ c. beBytes 2 (newRegion used (regionIndex s at c))) 0 (order p) 2
-    (λ k h. length-beBytes 2 (newRegion used (regionIndex s at (getD (order p) k 0)))) in
-    let rows = length-flat (λ i. rowBytes s at p i) 0 is (planLength p) (λ k h. length-row s at p (getD is k 0)) in
-    simp (length-append, length-beBytes, indexes, rows) (omega arith)
 
 -- the cell of a new column in a row
 row-cell : {w : List ℕ} {r : ℕ} (s : List ℕ) (at : ℕ) (p : Plan) (i c : ℕ) → c < length (order p) → Fits s at p i → Stands w r (rowBytes s at p i)

@@ -22,7 +22,8 @@ use Rattle.reread.proofs.Open.{no-column}
 use Rattle.reread.proofs.Columns.{order-few}
 use Rattle.reread.proofs.Laid.{LaidStore, laid-store}
 use Rattle.reread.proofs.RegionList.{LaidRegions, laid-regions}
-use Rattle.reread.proofs.Subtable.{planLength, LaidSubtable, laid-subtable}
+use Rattle.laws.specs.Lengths.{planLength}
+use Rattle.reread.proofs.Subtable.{LaidSubtable, laid-subtable}
 use Rattle.reread.proofs.Fit.{plan-fits}
 use Rattle.reread.proofs.Used.{used-record, column-region}
 use Rattle.reread.proofs.Bounds.{axes-small, runs-256, items-8192, columns-4096, used-4096, store-short}

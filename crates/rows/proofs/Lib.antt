@@ -3,8 +3,3 @@ pub mod Classes
 pub mod Placing
 pub mod Marking
 pub mod Plans
-pub mod Fits
-pub mod Lows
-pub mod Wholes
-pub mod Writing
-pub mod Subtables

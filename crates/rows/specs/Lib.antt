@@ -1,4 +1,4 @@
 pub mod Area
 pub mod Planned
 pub mod Place
-pub mod Written
+pub mod Length

@@ -8,11 +8,9 @@ use lib.Dec.{eqb}
 use Rattle.lists.specs.Pick.{pick}
 use Rattle.lists.specs.Search.{some, any}
 use Rattle.bits.specs.Bits.{has}
-use Rattle.opentype.specs.Store.{regionCount}
-use Rattle.opentype.specs.Subtable.{wordSize, restSize, columnCount, cellSize, regionIndex}
+use Rattle.opentype.specs.Subtable.{columnCount, regionIndex}
 use Rattle.rules.specs.Columns.{planOf, order, keptDeltas}
 use Rattle.rules.specs.StoreCut.{middle}
-use Rattle.readers.specs.declared.subtable.Subtable.{Subtable}
 use Rattle.rows.specs.declared.Columns.{Columns}
 use Rattle.rows.specs.Area.{usedIn, columnIn, columnsIn}
 
@@ -35,29 +33,3 @@ pub record Marked (s : List ℕ) (at regions : ℕ) (columns : List ℕ) (w w′
   pub low : take 8704 w′ ≡ take 8704 w
   pub high : drop 8832 w′ ≡ drop 8832 w
   pub used : (r : ℕ) → r < regions → has (usedIn w′) r ≡ pick (has (usedIn w) r) true (any (λ c. eqb (regionIndex s at c) r) columns)
-
--- every kept column names a region that is there and marked
-pub record Named (s : List ℕ) (at : ℕ) (w : List ℕ) (r : Columns) : Type 0 where
-  pub there : (j : ℕ) → j < r .wide + r .narrow → regionIndex s at (columnIn w (r .wide) j) < regionCount s
-  pub marked : (j : ℕ) → j < r .wide + r .narrow → has (usedIn w) (regionIndex s at (columnIn w (r .wide) j)) ≡ true
-
--- so many kept columns from the first-th on are columns of the subtable t, and their cells there have at least so many bytes
-pub record Fitting (t : Subtable) (w : List ℕ) (wide first count size : ℕ) : Type 0 where
-  pub there : (k : ℕ) → k < count → columnIn w wide (first + k) < t .columns
-  pub holds : (k : ℕ) → k < count → size ≤ cellSize (t .long) (t .words) (columnIn w wide (first + k))
-
--- no new cell is larger than the old one
-pub record Fitted (t : Subtable) (w : List ℕ) (r : Columns) : Type 0 where
-  pub wide : Fitting t w (r .wide) 0 (r .wide) (wordSize (r .long))
-  pub narrow : Fitting t w (r .wide) (r .wide) (r .narrow) (restSize (r .long))
-
--- the first n kept columns are the first n columns
-pub record Own (w : List ℕ) (wide n : ℕ) : Type 0 where
-  pub each : (j : ℕ) → j < n → columnIn w wide j ≡ j
-
--- every column is kept where it stands, in a cell of its old size
-pub record KeptWhole (t : Subtable) (w : List ℕ) (r : Columns) : Type 0 where
-  pub long : r .long ≡ t .long
-  pub wide : r .wide ≡ t .words
-  pub all : r .wide + r .narrow ≡ t .columns
-  pub own : Own w (r .wide) (t .columns)

@@ -21,7 +21,7 @@ use Rattle.opentype.specs.Subtable.{long, columnCount, wordSize, restSize}
 use Rattle.rules.specs.declared.Class.the-variants.{Dropped, Narrow, Wide}
 use Rattle.rules.specs.Columns.{planOf, planWith, keptDeltas, keepsLong, classOf, isWide, isNarrow, narrowLimit}
 use Rattle.demands.specs.ShortestRows.{Form, formLength, holds, carries}
-use Rattle.reread.proofs.Subtable.{planLength}
+use Rattle.laws.specs.Lengths.{planLength}
 
 -- costs, column by column
 weigh-le : (f g h k : ℕ → Bool) (a b a′ b′ n : ℕ)

@@ -1,0 +1,6 @@
+pub mod Plans
+pub mod Fits
+pub mod Lows
+pub mod Wholes
+pub mod Writing
+pub mod Subtables
