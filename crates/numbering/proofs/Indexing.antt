@@ -1,34 +1,25 @@
 -- The index of the kept pairs stands behind the first 9,088 numbers of the work area, which are kept.
 use Prim.Native.Nat.{ℕ, _+_, _<_}
-use mathlib.Core.Path.{_≡_, _∙_}
+use mathlib.Core.Path.{_≡_}
 use mathlib.Core.List.{List}
 use native.Mathlib.Omega.{arith}
 use lib.ListN.{length, getD, take, set}
 use lib.Seq.{take-set-le, getD-take, length-take-le}
-use borrow.Rule.Slice.PartMut.{putMid, take-put}
-use Rattle.lists.proofs.Cuts.{front-same, place-same}
+use Rattle.lists.proofs.Cuts.{place-same}
 use Rattle.rules.specs.Lists.{outer}
 use Rattle.numbering.specs.Numbered.{Numbered}
 use Rattle.numbering.proofs.Once.{member-at}
 use Rattle.numbering.proofs.Starts.{used-member}
 
--- the start of a segment is noted, a word, the place of its first pair
+-- the start of a segment is noted, the shift, the place of a slot's first pair
 pub start-noted : (w : List ℕ) (i v : ℕ) → take 9088 (set w (9088 + i) v) ≡ take 9088 w
 start-noted w i v = take-set-le 9088 w (9088 + i) v (omega arith)
 
-pub word-noted : (w : List ℕ) (i v : ℕ) → take 9088 (set w (12288 + i) v) ≡ take 9088 w
-word-noted w i v = take-set-le 9088 w (12288 + i) v (omega arith)
+pub shift-noted : (w : List ℕ) (v : ℕ) → take 9088 (set w 9345 v) ≡ take 9088 w
+shift-noted w v = take-set-le 9088 w 9345 v (omega arith)
 
-pub place-noted : (w : List ℕ) (i v : ℕ) → take 9088 (set w (14336 + i) v) ≡ take 9088 w
-place-noted w i v = take-set-le 9088 w (14336 + i) v (omega arith)
-
--- the words are cleared
-pub words-cleared : (w x : List ℕ) → length w ≡ 16384 → take 9088 (putMid 12288 2048 w x) ≡ take 9088 w
-words-cleared w x l = front-same (putMid 12288 2048 w x) w 12288 (take-put 12288 2048 w x (omega arith)) 9088 (omega arith)
-
--- and the shift is noted
-pub shift-noted : (w x : List ℕ) (v : ℕ) → length w ≡ 16384 → take 9088 (set (putMid 12288 2048 w x) 9345 v) ≡ take 9088 w
-shift-noted w x v l = take-set-le 9088 (putMid 12288 2048 w x) 9345 v (omega arith) ∙ words-cleared w x l
+pub place-noted : (w : List ℕ) (i v : ℕ) → take 9088 (set w (12288 + i) v) ≡ take 9088 w
+place-noted w i v = take-set-le 9088 w (12288 + i) v (omega arith)
 
 -- a pair of the list, as it stands while the index is made
 pub outer-at : {w : List ℕ} {n : ℕ} (k : ℕ) (v : List ℕ) → Numbered w n → take 9088 v ≡ take 9088 w → k < n → outer (getD v k 0) < 256

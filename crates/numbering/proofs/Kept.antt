@@ -5,6 +5,7 @@ use mathlib.Core.List.{List}
 use native.Mathlib.Omega.{arith}
 use lib.ListN.{length, getD, take}
 use lib.Seq.{getD-take, take-take}
+use Rattle.lists.proofs.Cuts.{front-same}
 use Rattle.numbering.specs.Numbered.{Numbered}
 
 module _ {w : List ℕ} {n : ℕ} (d : Numbered w n) (v : List ℕ) (same : take 8704 v ≡ take 8704 w) where
@@ -24,3 +25,7 @@ module _ {w : List ℕ} {n : ℕ} (d : Numbered w n) (v : List ℕ) (same : take
     starts = rw pairs-kept (λ o u. at (8192 + o) (omega (arith, d .low o u)) ∙ d .starts o u);
     numbers = rw pairs-kept (λ o u. at (8448 + o) (omega (arith, d .low o u)) ∙ d .numbers o u);
   }
+
+-- so it does while the index is made
+pub indexed-kept : {w v : List ℕ} {n : ℕ} → Numbered w n → take 9088 v ≡ take 9088 w → length v ≡ length w → Numbered v n
+indexed-kept {w} {v} d e l = numbered-kept d v (front-same v w 9088 e 8704 (omega arith)) l

@@ -1,10 +1,9 @@
 // New numbers, from the kept pairs and the tables of their runs in the work area.
-// A pair's place in the list is guessed by an index: ascending pairs as bits, a segment for each outer, and one for the pairs of outer 0
-// that stand behind those that come first. A guess is checked in the list, so nothing is said of what the index holds.
-//    9,088   by segment, outers first, the word where it starts
-//    9,345   the shift: a bit is for 2^shift inners
-//   12,288   the words of one segment behind those of the other, modulo 2,048: its inners, shifted, as bits
-//   14,336   by word, the place of the first pair in it
+// A pair's place in the list is guessed by an index: slots for ascending pairs, a segment of them for each outer, and one for the pairs of
+// outer 0 that stand behind those that come first. A guess is checked in the list, so nothing is said of what the index holds.
+//    9,088   by segment, outers first, the slot where it starts
+//    9,345   the shift: a slot is for 2^shift inners
+//   12,288   by slot, modulo 4,096, the place of the first pair in it
 ghost use mathlib.Core.Path.{_≡_};
 ghost use mathlib.Core.Bool.{true, false};
 ghost use Prim.Native.Nat.{_+_, _*_, _≤_, _<_};
@@ -25,7 +24,7 @@ fn segment_at(last: u32, pair: u32) -> usize
     (pair / 65536) as usize
 }
 
-// A pair's place among the bits of its segment.
+// A pair's slot in its segment.
 fn spot_of(pair: u32, shift: u32) -> usize
     requires { ⌜ shift < 16 ⌝ }
     ensures { λ r. ⌜ r < 65536 ⌝ }
@@ -33,10 +32,10 @@ fn spot_of(pair: u32, shift: u32) -> usize
     ((pair % 65536) >> shift) as usize
 }
 
-// Where the words of a pair's segment start. If the pair begins one, that is behind the last pair's word, and is noted.
-fn start_words(work: &mut [u32], start: usize, last: u32, pair: u32, shift: u32) -> usize
-    requires { ⌜ (length (now work) ≡ 16384) × (start ≤ 16777216) × (outer pair < 256) × (shift < 16) ⌝ }
-    ensures { λ r. ⌜ r ≤ start + 2048 ⌝ }
+// Where a pair's segment starts. If the pair begins one, that is behind the last pair's slot, and is noted.
+fn segment_start(work: &mut [u32], start: usize, slot: usize, last: u32, pair: u32) -> usize
+    requires { ⌜ (length (now work) ≡ 16384) × (start ≤ slot) × (slot ≤ 536870912) × (outer pair < 256) ⌝ }
+    ensures { λ r. ⌜ r ≤ slot + 1 ⌝ }
     ensures { λ _. ⌜ take 9088 (now (work .exit)) ≡ take 9088 (now (work .entry)) ⌝ }
 {
     let segment = segment_at(last, pair);
@@ -45,105 +44,91 @@ fn start_words(work: &mut [u32], start: usize, last: u32, pair: u32, shift: u32)
             return start;
         }
     }
-    let next = start + spot_of(last, shift) / 32 + 1;
+    let next = slot + 1;
     work[9088 + segment] = next as u32;
     next
 }
 
-// Notes the pair that stands at k in the list.
-fn note_pair(work: &mut [u32], start: usize, pair: u32, k: usize, shift: u32)
-    requires { ⌜ (length (now work) ≡ 16384) × (start ≤ 16777216) × (k < 8192) × (shift < 16) ⌝ }
+// Notes that the pair at k stands in a slot, if it is the first there: if the last one stands in another.
+fn note_place(work: &mut [u32], last: usize, slot: usize, k: usize)
+    requires { ⌜ (length (now work) ≡ 16384) × (k < 8192) ⌝ }
     ensures { λ _. ⌜ take 9088 (now (work .exit)) ≡ take 9088 (now (work .entry)) ⌝ }
 {
-    let spot = spot_of(pair, shift);
-    let word = (start + spot / 32) % 2048;
-    let bits = work[12288 + word];
-    work[12288 + word] = bits | (1u32 << (spot % 32));
-    if bits == 0 {
-        work[14336 + word] = k as u32;
+    if slot != last {
+        work[12288 + slot % 4096] = k as u32;
     }
 }
 
-// Makes the index of the n kept pairs, a bit for 2^shift inners; gives the word behind those of the last segment.
+// Makes the index of the n kept pairs, a slot for 2^shift inners; gives the last slot. They start at 1.
 fn index_by(work: &mut [u32], n: usize, shift: u32) -> usize
     requires { ⌜ Numbered (now work) n ⌝ }
     requires { ⌜ shift < 16 ⌝ }
-    ensures { λ r. ⌜ r ≤ 16779264 ⌝ }
+    ensures { λ r. ⌜ r ≤ 536870912 ⌝ }
     ensures { λ _. ⌜ take 9088 (now (work .exit)) ≡ take 9088 (now (work .entry)) ⌝ }
 {
-    bits::clear(&mut work[12288..14336], 2048);
     work[9345] = shift;
-    let mut start = 0;
     let mut last: u32 = 4294967295;
+    let mut start = 0;
+    let mut slot = 0;
     let mut k = 0;
     while k < n {
         let pair = work[k];
-        start = start_words(work, start, last, pair, shift);
-        note_pair(work, start, pair, k, shift);
+        start = segment_start(work, start, slot, last, pair);
+        let next = start + spot_of(pair, shift);
+        note_place(work, slot, next, k);
+        slot = next;
         last = pair;
         k += 1;
     }
-    start + spot_of(last, shift) / 32 + 1
+    slot
 }
 
-// A shift with which segments that end there find room.
-fn shift_for(end: usize) -> u32
-    requires { ⌜ end ≤ 16779264 ⌝ }
-    ensures { λ r. ⌜ r < 16 ⌝ }
+// A shift with which so many slots find room, but for one more a segment.
+fn shift_for(slots: usize) -> u32
+    requires { ⌜ (0 < slots) × (slots ≤ 536870912) ⌝ }
+    ensures { λ r. ⌜ r < 15 ⌝ }
 {
-    bits::inner_bits((end / 2048) as u32) % 16
+    bits::inner_bits(((slots - 1) / 4096) as u32) % 15
 }
 
-// Makes the index. The first segment starts at 2,048, so past 4,096 words would stand on others: then a bit is for several inners.
+// Makes the index. Past 4,096 slots would stand on others: then a slot is for several inners.
 pub fn index(work: &mut [u32], n: usize)
     requires { ⌜ Numbered (now work) n ⌝ }
     ensures { λ _. ⌜ take 9088 (now (work .exit)) ≡ take 9088 (now (work .entry)) ⌝ }
 {
-    let end = index_by(work, n, 0);
-    if 4096 < end {
-        index_by(work, n, shift_for(end));
+    let slots = index_by(work, n, 0);
+    if 4096 < slots {
+        let shift = shift_for(slots);
+        if 4096 < index_by(work, n, shift) {
+            index_by(work, n, shift + 1);
+        }
     }
 }
 
-// How many bits of a word are set below one of them.
-fn ones_below(word: u32, bit: usize) -> usize
-    requires { ⌜ bit < 32 ⌝ }
-    ensures { λ r. ⌜ r ≤ 32 ⌝ }
-{
-    u32::count_ones(word % (1u32 << bit)) as usize
-}
-
-// Where a pair stands by the index, if it stands in the segment: there, or a little behind where a bit is for several inners.
+// Where a pair stands by the index, if it stands in the segment: there, or a little behind where a slot is for several inners.
 fn guess(work: &[u32], segment: usize, inner: u32) -> usize
     requires { ⌜ (length (now work) ≡ 16384) × (segment ≤ 256) × (inner < 65536) ⌝ }
-    ensures { λ r. ⌜ r ≤ 8589934592 ⌝ }
+    ensures { λ r. ⌜ r ≤ 4294967295 ⌝ }
 {
     let spot = spot_of(inner, work[9345] % 16);
-    let word = (work[9088 + segment] as usize + spot / 32) % 2048;
-    work[14336 + word] as usize + ones_below(work[12288 + word], spot % 32)
+    let slot = (work[9088 + segment] as usize + spot) % 4096;
+    work[12288 + slot] as usize
 }
 
-// The check of a guess: no number stands twice among the first n, so one that stands at h has its place there.
-fn stands_at(list: &[u32], n: usize, h: usize, x: u32) -> bool
-    requires { ⌜ (n ≤ length (now list)) × (twice (take n (now list)) ≡ false) ⌝ }
-    ensures { λ r. ⌜ (r ≡ true → h ≡ place x (take n (now (list .entry)))) ⌝ }
-{
-    if h < n {
-        return list[h] == x;
-    }
-    false
-}
-
-// The place of a number that stands at h or less than 32 behind it; n where it doesn't.
+// The check of a guess: the place of a number that stands at h or less than 32 behind it, with lesser ones between; n where it doesn't.
+// No number stands twice among the first n, so where it is found is its place.
 fn place_near(list: &[u32], n: usize, h: usize, x: u32) -> usize
     requires { ⌜ (n ≤ length (now list)) × (twice (take n (now list)) ≡ false) ⌝ }
-    requires { ⌜ h ≤ 8589934592 ⌝ }
+    requires { ⌜ h ≤ 4294967295 ⌝ }
     ensures { λ r. ⌜ (r < n → r ≡ place x (take n (now (list .entry)))) ⌝ }
 {
     let mut i = h;
     while i < n {
         if list[i] == x {
             return i;
+        }
+        if x < list[i] {
+            return n;
         }
         if h + 31 <= i {
             return n;
@@ -169,7 +154,7 @@ fn place_among(list: &[u32], from: usize, to: usize, x: u32) -> usize
     i - from
 }
 
-// The place of a kept pair in the list: the first of the guesses that stands, or a place near the first, or else what a walk through its run finds.
+// The place of a kept pair in the list: by the first of the two guesses that holds, or else what a walk through its run finds.
 fn place_of(work: &[u32], n: usize, p: Pair) -> usize
     requires { ⌜ Numbered (now work) n ⌝ }
     requires { ⌜ Among (take n (now work)) p ⌝ }
@@ -178,17 +163,13 @@ fn place_of(work: &[u32], n: usize, p: Pair) -> usize
     let outer = p.outer as usize;
     let inner = p.inner;
     let pair = p.outer * 65536 + p.inner;
-    let first = guess(work, outer, inner);
-    if stands_at(work, n, first, pair) {
+    let first = place_near(work, n, guess(work, outer, inner), pair);
+    if first < n {
         return first;
     }
-    let second = guess(work, 256, inner);
-    if stands_at(work, n, second, pair) {
+    let second = place_near(work, n, guess(work, 256, inner), pair);
+    if second < n {
         return second;
-    }
-    let near = place_near(work, n, first, pair);
-    if near < n {
-        return near;
     }
     let from = work[8192 + outer] as usize;
     from + place_among(work, from, n, pair)

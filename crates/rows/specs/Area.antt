@@ -3,7 +3,7 @@
 --   8,192     512   a table's runs: where each outer's run starts, and its new number
 --   8,704     128   used regions, as bits
 --   8,832     256   the length of each written subtable
---   9,088   2,048   inners of one outer, as bits: shows a pair that stands twice; of a table, where each run's words start in the index
+--   9,088   2,048   inners of one outer, as bits: shows a pair that stands twice; of a table, where each run's slots start in the index
 --  12,288   4,096   the current subtable's kept columns: wide ones from the front, narrow ones from the back, each in old order;
 --                   while a table's pairs are collected, two sets of inners; while its maps are planned and written, the index of its pairs
 use Prim.Native.Nat.{ℕ, _+_, _-_}

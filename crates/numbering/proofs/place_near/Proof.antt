@@ -25,6 +25,9 @@ place-near-spec =
     (λ c. search needs)
     returns
     (λ c. search needs)
+    (λ c. search needs)
+    (λ c. λ l. absurd (omega arith))
+    (λ c. search needs)
     (λ c. λ l. absurd (omega arith))
     (λ c. search needs)
     (λ c. search needs)
