@@ -1,6 +1,4 @@
-pub mod Marks
-pub mod Spots
-pub mod Batches
+pub mod Part
 pub mod Grown
 pub mod Ordered
 pub mod Collecting
