@@ -1,6 +1,6 @@
 -- The inner bits of a map hold its largest number, and no fewer, at least 1, do.
 use Prim.Native.Nat.{ℕ, suc, _-_, _^_, _≤_, _<_, max}
-use native.Mathlib.Nat.{two-pow-succ, lt-of-lt-of-le}
+use native.Mathlib.Nat.{two-pow-succ, lt-of-lt-of-le, lt-of-le-of-lt}
 use native.Mathlib.Omega.{arith}
 use native.Mathlib.Decide.{decLt}
 use lib.Pow.{pow-mono}
@@ -24,3 +24,7 @@ module _ (n : ℕ) (h : n < 2 ^ 32) where
         | yes g ↦ absurd (omega (arith, pow-mono {i = suc d} {j = l .0} g, two-pow-succ d))
         | no g ↦ omega arith
       ]
+
+-- a larger number takes no fewer
+pub bits-climb : (a b : ℕ) → a ≤ b → b < 2 ^ 32 → bitsFor a ≤ bitsFor b
+bits-climb a b h l = bits-least a (lt-of-le-of-lt h l) (bitsFor b) (bits-some b) (lt-of-le-of-lt h (bits-hold b l))

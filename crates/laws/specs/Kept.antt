@@ -36,7 +36,7 @@ order-member first named p h =
     (member-without p first (ascending named) ∙ both-of (not (member p first)) (member p (ascending named)) (rw e) (member-ascending p named ∙ h)))
 
 -- outers of ascending pairs don't fall
-climbs-rising : (c b : ℕ) (ps : List ℕ) → c ≤ outer b → Rises b ps → Climbs c ps
+pub climbs-rising : (c b : ℕ) (ps : List ℕ) → c ≤ outer b → Rises b ps → Climbs c ps
 climbs-rising c b [] h r = tt
 climbs-rising c b (p ∷ ps) h r = (le-trans h (shr-mono 16 (r .0)), climbs-rising (outer p) (suc p) ps (shr-mono 16 (omega arith)) (r .1))
 
@@ -53,7 +53,8 @@ order-climbs first named h =
     climbs-first first (without first (ascending named)) h
     (climbs-rising 0 0 (without first (ascending named)) (omega arith) (rises-keep _ 0 (ascending named) (rises-ascending named)))
 
-once-rising : (b : ℕ) (ps : List ℕ) → Rises b ps → twice ps ≡ false
+-- and none stands twice
+pub once-rising : (b : ℕ) (ps : List ℕ) → Rises b ps → twice ps ≡ false
 unfolding twice
 once-rising b [] r = refl
 once-rising b (p ∷ ps) r = rw (below-rises (suc p) ps (r .1) p (omega arith)) (once-rising (suc p) ps (r .1))

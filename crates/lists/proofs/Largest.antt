@@ -1,9 +1,9 @@
 -- The largest of a list's numbers.
 use Prim.Native.Nat.{ℕ, zero, suc, _≤_, _<_}
-use mathlib.Core.List.{List, [], _∷_}
+use mathlib.Core.List.{List, [], _∷_, map}
 use native.Mathlib.Omega.{arith}
-use native.Mathlib.Nat.{not-suc-le-zero}
-use lib.ListN.{length, getD}
+use native.Mathlib.Nat.{not-suc-le-zero, le-refl}
+use lib.ListN.{length, getD, drop}
 use Rattle.lists.specs.Search.{largest}
 
 -- no element is above it
@@ -18,3 +18,10 @@ pub largest-below : (xs : List ℕ) (k d : ℕ) → 0 < k → ((n : ℕ) → n <
 unfolding largest
 largest-below [] k d p h = p
 largest-below (x ∷ xs) k d p h = let i = largest-below xs k d p (λ n l. h (suc n) (omega arith)) in omega (arith, h 0 (omega arith))
+
+-- what is left of a list has no larger one
+pub largest-left : (f : ℕ → ℕ) (xs : List ℕ) (i : ℕ) → largest (map f (drop i xs)) ≤ largest (map f xs)
+unfolding largest
+largest-left f xs zero = le-refl (largest (map f xs))
+largest-left f [] (suc i) = le-refl 0
+largest-left f (x ∷ xs) (suc i) = omega (arith, largest-left f xs i)

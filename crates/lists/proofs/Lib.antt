@@ -8,7 +8,6 @@ pub mod Ascending
 pub mod Ranks
 pub mod Selects
 pub mod Largest
-pub mod Sorted
 pub mod Parts
 pub mod Copies
 pub mod Cuts

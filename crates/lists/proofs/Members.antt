@@ -13,6 +13,7 @@ use Rattle.lists.specs.Gather.{flat, keep}
 use Rattle.lists.specs.Search.{any, member}
 use Rattle.lists.specs.Order.{without}
 use Rattle.lists.proofs.Choices.{either-of, either-left, either-right}
+use Rattle.lists.proofs.Each.{any-at}
 use Rattle.lists.proofs.Places.{member-append}
 
 pub no-member : (z : ℕ) → member z [] ≡ false
@@ -22,6 +23,11 @@ no-member z = refl
 pub member-cons : (z y : ℕ) (ys : List ℕ) → member z (y ∷ ys) ≡ pick (eqb z y) true (member z ys)
 unfolding member any
 member-cons z y ys = refl
+
+-- an element is a member
+pub member-at : (xs : List ℕ) (n : ℕ) → n < length xs → member (getD xs n 0) xs ≡ true
+unfolding member
+member-at xs n h = any-at (λ y. eqb (getD xs n 0) y) 0 xs n h (eq-eqb (getD xs n 0) (getD xs n 0) refl)
 
 -- the mapped element at a place is a member
 pub member-map-at : {A : Type 0} (f : A → ℕ) (xs : List A) (n : ℕ) (d : A) → n < length xs → member (f (getD xs n d)) (map f xs) ≡ true

@@ -104,3 +104,14 @@ place-select f r (suc n) h e =
     here q =
         rw q (place-right n (select f n) (pick (f n) (n ∷ []) []) (not-below f n n (omega arith))
         ∙ rw (length-select f n, self-one n (f n) (ap f (sym q) ∙ e) .1) (omega arith))
+
+-- no later than any place where the number stands
+pub place-least : (x : ℕ) (ys : List ℕ) (j : ℕ) → j < length ys → getD ys j 0 ≡ x → place x ys ≤ j
+unfolding place
+place-least x [] j h e = absurd (not-suc-le-zero h)
+place-least x (y ∷ ys) zero h e = rw (eq-eqb x y (sym e)) (omega arith)
+place-least x (y ∷ ys) (suc j) h e = step (eqb x y) (place-least x ys j (omega arith) e)
+  where
+    step : (b : Bool) → place x ys ≤ j → pick b 0 (suc (place x ys)) ≤ suc j
+    step true i = omega arith
+    step false i = omega arith

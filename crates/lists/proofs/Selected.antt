@@ -10,6 +10,7 @@ use lib.Seq.{getD-append-add}
 use Rattle.lists.specs.Pick.{pick}
 use Rattle.lists.specs.Gather.{select, rank}
 use Rattle.lists.specs.Search.{place}
+use Rattle.lists.proofs.Choices.{refuted}
 use Rattle.lists.proofs.Places.{at-place, is-selected, length-select}
 
 -- what stands in a selection is below n and was selected
@@ -112,12 +113,8 @@ pair-once f g n x c d h k e =
 -- a number that is in neither was selected by neither
 pub pair-out : (f g : ℕ → Bool) (n b : ℕ) → b < n → ((c : ℕ) → c < length (select f n ++ select g n) → getD (select f n ++ select g n) c 0 ≡ b → ⊥)
     → (f b ≡ false) × (g b ≡ false)
-pair-out f g n b l h = (none (f b) refl (λ e. first e), none (g b) refl (λ e. then e))
+pair-out f g n b l h = (refuted (f b) (λ e. first e), refuted (g b) (λ e. then e))
   where
-    none : (v : Bool) → {w : Bool} → w ≡ v → (w ≡ true → ⊥) → w ≡ false
-    none true e k = absurd (k e)
-    none false e k = e
-
     first : f b ≡ true → ⊥
     first e =
         let p = at-place b 0 (select f n) (is-selected f b n l e) in

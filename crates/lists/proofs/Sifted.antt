@@ -1,6 +1,6 @@
 -- Lists that were sifted, and what a whole list says of its members.
 use Prim.Native.Nat.{ℕ}
-use mathlib.Core.Path.{_≡_, refl, sym, _∙_}
+use mathlib.Core.Path.{_≡_, refl, sym, ap, _∙_}
 use mathlib.Core.Bool.{Bool, true, false, false≢true}
 use mathlib.Core.List.{List, [], _∷_, _++_, map}
 use lib.Dec.{eqb}
@@ -8,9 +8,9 @@ use borrow.Author.Tests.{eq-eqb, eqb-true}
 use Rattle.lists.specs.Pick.{pick}
 use Rattle.lists.specs.Gather.{keep}
 use Rattle.lists.specs.Search.{any, member}
-use Rattle.lists.proofs.Choices.{either-of, either-right}
+use Rattle.lists.proofs.Choices.{either-of, either-right, same-test}
 use Rattle.lists.proofs.Each.{neither}
-use Rattle.lists.proofs.Members.{no-member, member-cons}
+use Rattle.lists.proofs.Members.{no-member, member-cons, member-map}
 
 pub keep-append : {A : Type 0} (f : A → Bool) (xs ys : List A) → keep f (xs ++ ys) ≡ keep f xs ++ keep f ys
 unfolding keep
@@ -46,3 +46,16 @@ unfolding keep
 keep-all f [] h = refl
 keep-all f (x ∷ xs) h =
     rw (h x (member-cons x x xs ∙ rw (eq-eqb x x refl)), keep-all f xs (λ z e. h z (member-cons z x xs ∙ either-right (eqb z x) (member z xs) e)))
+
+pub keep-none : (f : ℕ → Bool) (xs : List ℕ) → ((z : ℕ) → member z xs ≡ true → f z ≡ false) → keep f xs ≡ []
+unfolding keep
+keep-none f [] h = refl
+keep-none f (x ∷ xs) h =
+    rw (h x (member-cons x x xs ∙ rw (eq-eqb x x refl)), keep-none f xs (λ z e. h z (member-cons z x xs ∙ either-right (eqb z x) (member z xs) e)))
+
+-- a number is a member of the mapped list just if it was one, where f takes nothing else to its image
+pub member-apart : (f : ℕ → ℕ) (z : ℕ) (xs : List ℕ) → ((x : ℕ) → member x xs ≡ true → f x ≡ f z → x ≡ z) → member (f z) (map f xs) ≡ member z xs
+member-apart f z xs h =
+    same-test (member (f z) (map f xs)) (member z xs)
+    (λ e. of-members (λ y. y ≡ f z → member z xs ≡ true) f xs (λ x m q. sym (ap (λ (n : ℕ). member n xs) (h x m q)) ∙ m) (f z) e refl)
+    (λ e. member-map f z xs e)

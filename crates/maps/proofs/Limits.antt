@@ -1,20 +1,18 @@
 -- The largest place of a pair in its run, by the runs' starts, and that no new inner is above it.
 use Prim.Native.Nat.{ℕ, zero, suc, _+_, _-_, _≤_, _<_, max}
-use mathlib.Core.Path.{_≡_, refl, sym, ap, _∙_}
-use mathlib.Core.Bool.{Bool, true, false}
+use mathlib.Core.Path.{_≡_, ap, _∙_}
+use mathlib.Core.Bool.{true}
 use mathlib.Core.List.{List, [], _∷_}
 use native.Mathlib.Omega.{arith}
 use native.Mathlib.Nat.{not-suc-le-zero, le-refl}
 use native.Mathlib.Decide.{decLt}
 use lib.ListN.{length, getD, take, drop, length-drop}
 use lib.Seq.{length-take-le, getD-take, getD-drop}
-use lib.Dec.{eqb}
-use borrow.Author.Tests.{eq-eqb, lt-ltb}
-use Rattle.lists.specs.Pick.{pick}
+use borrow.Author.Tests.{lt-ltb}
 use Rattle.lists.specs.Gather.{keep}
-use Rattle.lists.specs.Search.{member, place}
-use Rattle.lists.proofs.Each.{any-at}
-use Rattle.lists.proofs.Places.{at-place}
+use Rattle.lists.specs.Search.{place}
+use Rattle.lists.proofs.Members.{member-at}
+use Rattle.lists.proofs.Places.{at-place, place-least}
 use Rattle.rules.specs.Lists.{outer, runs}
 use Rattle.rules.specs.Numbering.{newInner}
 use Rattle.laws.specs.Outers.{Climbs, climbs-not-fall}
@@ -57,23 +55,9 @@ from-start b o (q ∷ qs) (suc k) c h i =
 
 -- ---- one pair
 
-place-least : (x : ℕ) (ys : List ℕ) (j : ℕ) → j < length ys → getD ys j 0 ≡ x → place x ys ≤ j
-unfolding place
-place-least x [] j h e = absurd (not-suc-le-zero h)
-place-least x (y ∷ ys) zero h e = rw (eq-eqb x y (sym e)) (omega arith)
-place-least x (y ∷ ys) (suc j) h e = step (eqb x y) (place-least x ys j (omega arith) e)
-  where
-    step : (b : Bool) → place x ys ≤ j → pick b 0 (suc (place x ys)) ≤ suc j
-    step true i = omega arith
-    step false i = omega arith
-
 module _ (ps : List ℕ) (c : Climbs 0 ps) (k : ℕ) (h : k < length ps) where
   abbrev mine : ℕ
   mine = startOf ps (outer (getD ps k 0))
-
-  there : member (getD ps k 0) ps ≡ true
-  unfolding member
-  there = any-at (λ y. eqb (getD ps k 0) y) 0 ps k h (eq-eqb (getD ps k 0) (getD ps k 0) refl)
 
   start-before : mine ≤ k
   start-before =
@@ -85,7 +69,7 @@ module _ (ps : List ℕ) (c : Climbs 0 ps) (k : ℕ) (h : k < length ps) where
   inner-before : newInner (runs ps) (getD ps k 0) ≤ k - mine
   inner-before =
       let e : mine + (k - mine) ≡ k = omega (arith, start-before) in
-      rw (inner-place (getD ps k 0) ps c there)
+      rw (inner-place (getD ps k 0) ps c (member-at ps k h))
       (place-least (getD ps k 0) (drop mine ps) (k - mine) (omega (arith, length-drop mine ps, start-before)) (getD-drop mine ps (k - mine) 0 ∙ ap (λ (i : ℕ). getD ps i 0) e))
 
 -- ---- run after run, from the last
@@ -107,7 +91,7 @@ module _ {w : List ℕ} {n : ℕ} (d : Numbered w n) where
   at k h = getD-take n w k 0 h
 
   its-used : (k : ℕ) → k < n → used (take n w) (outer (getD w k 0)) ≡ true
-  its-used k h = rw (← at k h) (used-member (getD (take n w) k 0) (take n w) (there (take n w) (d .climbs) k (omega (arith, size))))
+  its-used k h = rw (← at k h) (used-member (getD (take n w) k 0) (take n w) (member-at (take n w) k (omega (arith, size))))
 
   pub outer-low : (k : ℕ) → k < n → outer (getD w k 0) < 256
   outer-low k h = d .low (outer (getD w k 0)) (its-used k h)

@@ -1,26 +1,21 @@
 -- The largest number of a list, gathered from its end, and the bits that it takes.
-use Prim.Native.Nat.{ℕ, zero, suc, _-_, _^_, _≤_, _<_, max}
+use Prim.Native.Nat.{ℕ, suc, _-_, _^_, _≤_, _<_, max}
 use mathlib.Core.Path.{_≡_, ap, _∙_}
-use mathlib.Core.List.{List, [], _∷_, map}
+use mathlib.Core.List.{List, _∷_, map}
 use native.Mathlib.Nat.{le-refl, lt-of-le-of-lt}
 use native.Mathlib.Omega.{arith}
 use lib.Count.{leadingZeros}
 use lib.ListN.{length, getD, drop, drop-of-length-le}
 use lib.Seq.{drop-cons}
 use Rattle.lists.specs.Search.{largest}
+use Rattle.lists.proofs.Largest.{largest-left}
 use Rattle.rules.specs.Maps.{bitLength, bitsFor}
-use Rattle.laws.specs.Bits.{bits-some, bits-hold, bits-least}
+use Rattle.laws.specs.Bits.{bits-climb}
 
 -- most is the largest from place i on
 pub record Most (f : ℕ → ℕ) (xs : List ℕ) (i most : ℕ) : Type 0 where
   pub inside : i ≤ length xs
   pub is : most ≡ largest (map f (drop i xs))
-
-largest-left : (f : ℕ → ℕ) (xs : List ℕ) (i : ℕ) → largest (map f (drop i xs)) ≤ largest (map f xs)
-unfolding largest
-largest-left f xs zero = le-refl (largest (map f xs))
-largest-left f [] (suc i) = le-refl 0
-largest-left f (x ∷ xs) (suc i) = omega (arith, largest-left f xs i)
 
 module _ {f : ℕ → ℕ} {xs : List ℕ} where
   pub most-none : Most f xs (length xs) 0
@@ -41,9 +36,6 @@ module _ {f : ℕ → ℕ} {xs : List ℕ} where
   most-end {i} m h = let e : i ≡ 0 = omega arith in rw e at (m .is)
 
 -- ---- bits
-
-bits-climb : (a b : ℕ) → a ≤ b → b < 2 ^ 32 → bitsFor a ≤ bitsFor b
-bits-climb a b h l = bits-least a (lt-of-le-of-lt h l) (bitsFor b) (bits-some b) (lt-of-le-of-lt h (bits-hold b l))
 
 -- a number with as many bits as a limit: those above it, up to the limit, have as many
 pub bits-full : {most top limit some full : ℕ} → most ≤ top → top ≤ limit → limit < 2 ^ 32 → full ≡ max 1 (32 - leadingZeros 32 limit)

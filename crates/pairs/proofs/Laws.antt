@@ -1,5 +1,5 @@
 -- Laws of the set of inners that the search for a pair that stands twice keeps, of pairs that rise, and of the runs of one outer.
-use Prim.Native.Nat.{ℕ, zero, suc, _+_, _-_, _*_, _/_, _%_, _<_, _≤_}
+use Prim.Native.Nat.{ℕ, zero, suc, _+_, _-_, _*_, _<_, _≤_}
 use mathlib.Core.Path.{_≡_, refl, sym, ap, _∙_}
 use mathlib.Core.Bool.{Bool, true, false}
 use mathlib.Core.List.{List, [], _∷_, _++_, map}
@@ -7,18 +7,19 @@ use native.Mathlib.Omega.{arith}
 use native.Mathlib.Nat.{not-suc-le-zero}
 use native.Mathlib.Numerals.{add-one}
 use native.Mathlib.Decide.{ℕ-discrete, decLt}
-use lib.ListN.{length, getD, take, drop, replicate, take-append-drop, length-take, length-drop, drop-of-length-le}
+use lib.ListN.{length, getD, take, drop, replicate, take-append-drop, length-drop, drop-of-length-le}
 use lib.Seq.{take-suc, drop-cons, drop-drop, getD-take, getD-drop, ext-getD, length-take-le}
 use lib.Dec.{eqb}
 use borrow.Author.Tests.{eq-eqb, ne-eqb, le-ltb}
 use Rattle.lists.specs.Pick.{pick}
 use Rattle.lists.specs.Search.{any, member}
 use Rattle.lists.proofs.Places.{member-append}
-use Rattle.lists.proofs.Members.{no-member}
-use Rattle.lists.proofs.Ascending.{Rises, below-rises}
+use Rattle.lists.proofs.Ascending.{Rises}
 use Rattle.bits.specs.Bits.{has, insert}
 use Rattle.bits.proofs.Sets.{has-zeros, has-insert}
-use Rattle.rules.specs.Lists.{Run, outer, inner, outersFall, twice, badPairs, mostPairs, runs}
+use Rattle.rules.specs.Lists.{outer, inner, outersFall, badPairs, mostPairs, runs}
+use Rattle.laws.specs.Outers.{climbs-not-fall}
+use Rattle.laws.specs.Kept.{climbs-rising, once-rising}
 use Rattle.laws.specs.Pairs.{outers-climb, again}
 use Rattle.laws.specs.Runs.{Alike, last, more, begins, run-first}
 use Rattle.pairs.specs.Pairs.{Inners, Held, OneOuter, RunEnd}
@@ -102,17 +103,9 @@ pub rises-end : (b : ℕ) (ps : List ℕ) (i : ℕ) → length ps ≤ i → Rise
 rises-end b ps i h = rw (drop-of-length-le ps {i = i} h) tt
 
 -- their outers don't fall, and none stands twice
-rises-good : (b : ℕ) (ps : List ℕ) → Rises b ps → (outersFall ps ≡ false) × (twice ps ≡ false)
-unfolding outersFall twice
-rises-good b [] r = (refl, refl)
-rises-good b (p ∷ []) r = (refl, rw (no-member p))
-rises-good b (p ∷ q ∷ ps) r =
-    let rest = rises-good (suc p) (q ∷ ps) (r .1) in
-    (rw (le-ltb (outer q) (outer p) (omega (arith, r .1 .0))) (rest .0), rw (below-rises (suc p) (q ∷ ps) (r .1) p (omega arith)) (rest .1))
-
 pub rises-kept : (ps : List ℕ) → length ps ≤ mostPairs → Rises 0 ps → badPairs ps ≡ false
 unfolding badPairs
-rises-kept ps h r = let g = rises-good 0 ps r in rw (le-ltb mostPairs (length ps) h, g .0, g .1)
+rises-kept ps h r = rw (le-ltb mostPairs (length ps) h, climbs-not-fall 0 ps (climbs-rising 0 0 ps (omega arith) r), once-rising 0 ps r)
 
 -- ---- a run of one outer
 

@@ -1,18 +1,17 @@
 -- The table as it is laid: header, maps, and the store between them.
-use Prim.Native.Nat.{ℕ, zero, suc, _+_, _-_, _*_, _<_, _≤_}
-use mathlib.Core.Path.{_≡_, refl, sym, ap, subst, _∙_}
+use Prim.Native.Nat.{ℕ, _+_, _-_, _*_, _≤_}
+use mathlib.Core.Path.{_≡_, refl, ap, _∙_}
 use mathlib.Core.Bool.{Bool, true, false}
-use mathlib.Core.List.{List, [], _∷_, _++_, append-assoc}
+use mathlib.Core.List.{List, [], _∷_, _++_}
 use native.Mathlib.Omega.{arith}
 use lib.ListN.{length, take, drop, length-append, length-drop}
-use lib.Seq.{length-take-le, take-at, drop-at}
-use borrow.Rule.Slice.PartMut.{putMid, take-put, drop-put, post-is}
-use Rattle.lists.specs.Gather.{gather, flat, tab}
+use lib.Seq.{length-take-le}
+use borrow.Rule.Slice.PartMut.{putMid}
+use Rattle.lists.specs.Gather.{gather, tab}
 use Rattle.lists.specs.Search.{some}
 use Rattle.lists.proofs.Pieces.{length-tab}
 use Rattle.lists.proofs.Tabs.{gather-tab}
-use Rattle.lists.proofs.Parts.{put-next}
-use Rattle.lists.proofs.Cuts.{front-same}
+use Rattle.lists.proofs.Parts.{put-next, put-apart}
 use Rattle.cells.specs.Be.{beBytes}
 use Rattle.cells.proofs.Cells.{length-beBytes}
 use Rattle.opentype.specs.Table.{headerLength, storeOf}
@@ -42,22 +41,6 @@ table-length maps t store f h =
     simp (length-append, length-take-le 4 t h, length-beBytes, length-offsets, length-tab, ← gather-tab (λ part. part) f) (omega arith)
 
 -- ---- the bytes
-
--- two parts of which one ends where the other starts are laid in any order
-put-apart : (a e k : ℕ) (xs u v : List ℕ) → a ≤ e → e ≤ length xs → length u ≡ e - a → putMid a (e - a) (putMid e k xs v) u ≡ putMid e k (putMid a (e - a) xs u) v
-put-apart a e k xs u v h g l =
-    let ys = putMid e k xs v in
-    let zs = putMid a (e - a) xs u in
-    let rest = v ++ drop k (drop e xs) in
-    let front : take a ys ≡ take a xs = front-same ys xs e (take-put e k xs v g) a h in
-    let behind : drop (e - a) (drop a ys) ≡ rest = post-is a e ys h ∙ drop-at (take e xs) rest e (length-take-le e xs g) in
-    let n : length (take a xs ++ u) ≡ e = rw (length-append, length-take-le a xs (omega arith)) (omega arith) in
-    let both : take e zs ≡ take a xs ++ u
-    = ap (λ (z : List ℕ). take e z) (sym (append-assoc (take a xs) u (drop (e - a) (drop a xs)))) ∙ take-at (take a xs ++ u) (drop (e - a) (drop a xs)) e n in
-    ap (λ (z : List ℕ). z ++ (u ++ drop (e - a) (drop a ys))) front
-    ∙ (ap (λ (z : List ℕ). take a xs ++ (u ++ z)) behind
-    ∙ (sym (append-assoc (take a xs) u rest)
-    ∙ sym (ap (λ (z : List ℕ). z ++ (v ++ drop k (drop e zs))) both ∙ ap (λ (z : List ℕ). (take a xs ++ u) ++ (v ++ drop k z)) (drop-put a e xs u h g l))))
 
 pub table-laid : {maps : ℕ} {t es : List ℕ} {plans : List MapPlan} {wide : Bool} {total : ℕ} (old store : List ℕ) (size : ℕ) {h s m : List ℕ}
     → MapsPlanned maps t es plans wide total maps → size ≡ length store → 4 ≤ length t
