@@ -5,9 +5,8 @@ use mathlib.Core.Bool.{false}
 use mathlib.Core.List.{List, []}
 use native.Mathlib.Omega.{arith}
 use native.Mathlib.Nat.{add-sub-cancel-left}
-use borrow.Author.Tests.{eq-eqb, ne-eqb}
+use borrow.Author.Tests.{ne-eqb}
 use lib.ListN.{length, take, drop, length-take, length-drop}
-use Rattle.opentype.specs.Store.{subtableAt}
 use Rattle.opentype.specs.Subtable.{rowAt}
 use Rattle.rules.specs.Open.{badStore}
 use Rattle.rules.specs.Readers.{rowOf}

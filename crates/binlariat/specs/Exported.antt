@@ -3,7 +3,6 @@ use Prim.Native.Nat.{ℕ}
 use mathlib.Core.Path.{_≡_}
 use mathlib.Core.List.{List}
 use lib.ListN.{length}
-use lib.IntN.{ℤ}
 use lib.Dec.{eqb}
 use Rattle.lists.specs.Pick.{pick}
 use Rattle.opentype.specs.Store.{subtableAt}

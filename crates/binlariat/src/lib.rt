@@ -1,6 +1,5 @@
 // The C interface: document 01's numbers for the answers of the calls below. Nothing is decided here.
 ghost use mathlib.Core.Path.{_≡_};
-ghost use lib.Dec.{eqb};
 ghost use Rattle.lists.specs.Pick.{differ};
 ghost use Rattle.rules.specs.Numbers.{numberOfAnswer, lengthOfAnswer};
 ghost use Rattle.rules.specs.StoreCut.{cutStore};

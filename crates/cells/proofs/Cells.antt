@@ -7,7 +7,7 @@ use native.Mathlib.Nat.{pow-suc, pow-succ', one-le-pow, div-div-eq-div-mul, div-
 use native.Mathlib.Omega.{arith}
 use lib.Arith.{digits-lt, digits-div, digits-mod, mod-mul}
 use lib.Pow.{pow-add}
-use lib.ListN.{length, getD, set, take, drop, length-append, length-set, length-drop, List·getD-append}
+use lib.ListN.{length, getD, set, take, drop, length-append, length-set, length-drop}
 use lib.Seq.{sets, sets-eq, take-suc, getD-append-add, getD-at, getD-set-same, getD-set-other, getD-take, getD-drop}
 use Rattle.cells.specs.Be.{be, beBytes, Cell, Wrote}
 
@@ -44,12 +44,6 @@ be-ext zero s t i j h = refl
 be-ext (suc w) s t i j h = ap₂ (λ (x y : ℕ). x * 256 + y) (be-ext w s t i j (λ k l. h k (omega arith))) (h w (omega arith))
 
 -- ---- a cell of a part of a list
-
-pub be-right : (w : ℕ) (p s : List ℕ) (i : ℕ) → be w (p ++ s) (length p + i) ≡ be w s i
-be-right w p s i = be-ext w (p ++ s) s (length p + i) i (λ k lt. rw (add-assoc (length p) i k) (getD-append-add p s (i + k) 0))
-
-pub be-left : (w : ℕ) (s t : List ℕ) (i : ℕ) → i + w ≤ length s → be w (s ++ t) i ≡ be w s i
-be-left w s t i h = be-ext w (s ++ t) s i i (λ k lt. List·getD-append s t 0 (i + k) (omega arith))
 
 pub be-drop : (w n : ℕ) (s : List ℕ) (i : ℕ) → be w (drop n s) i ≡ be w s (n + i)
 be-drop w n s i = be-ext w (drop n s) s i (n + i) (λ k lt. rw (add-assoc n i k) (getD-drop n s (i + k) 0))

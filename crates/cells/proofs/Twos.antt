@@ -12,11 +12,11 @@ use borrow.Author.Tests.{lt-ltb, le-ltb, ltb-true}
 use mir.Syntax.{w32}
 use mir.Val.{toZ, ofZ, Fits, SFits}
 use mir.Facts.{toZ-ofZ, toZ-pos, toZ-neg}
-use mathlib.Core.List.{List, _++_}
+use mathlib.Core.List.{List}
 use lib.ListN.{length}
 use Rattle.cells.specs.Be.{beBytes, Cell, Wrote}
-use Rattle.cells.proofs.Cells.{be-at, read-back}
-use Rattle.cells.specs.Sign.{sign, signedAt, signedBytes, outside, Size}
+use Rattle.cells.proofs.Cells.{read-back}
+use Rattle.cells.specs.Sign.{sign, signedAt, signedBytes, Size}
 
 apart : {X : Type 0} → false ≡ true → X
 apart e = let z : _≡_ {A = ℕ} 0 1 = cc in absurd (omega arith)
@@ -69,23 +69,6 @@ not-below-zero {z = pos n} f t =
     let e : toZ w32 n ≡ pos n = toZ-pos w32 (f .sfits) in record { can = rw e (tt, omega arith); is = rw e; size = rw e }
 not-below-zero {z = negsuc n} f t = apart (sym (rw (toZ-ofZ f) at t))
 
--- ---- ranges: what the tests `x < -(j + 1)` and `x > j` say
-
-low : (j : ℕ) (z : ℤ) → ltZ z (negsuc j) ≡ true → outside j z ≡ true
-low j (pos n) t = apart t
-low j (negsuc n) t = t
-
-rest : (j : ℕ) (z : ℤ) → ltZ z (negsuc j) ≡ false → ltZ (pos j) z ≡ outside j z
-rest j (pos n) t = refl
-rest j (negsuc n) t = sym t
-
-pub outside-low : (j : ℕ) {z : ℤ} → SFits w32 z → ltZ (toZ w32 (ofZ w32 z)) (negsuc j) ≡ true → outside j z ≡ true
-outside-low j {z} f t = low j z (rw (toZ-ofZ f) at t)
-
-pub outside-rest : (j : ℕ) {z : ℤ} → SFits w32 z → ltZ (toZ w32 (ofZ w32 z)) (negsuc j) ≡ false
-    → ltZ (pos j) (toZ w32 (ofZ w32 z)) ≡ outside j z
-outside-rest j {z} f t = rw (toZ-ofZ f) (rest j z (rw (toZ-ofZ f) at t))
-
 -- ---- what fits comes back: 2 h is the width's power, and q of those are 2 ^ 32
 
 wrap : (q m n : ℕ) → n < m → (suc q * m - suc n) % m ≡ m - suc n
@@ -121,11 +104,6 @@ sign-back (suc (suc (suc (suc (suc w))))) z s = absurd (omega arith)
 pub read-cell : {l n : List ℕ} {i : ℕ} (z : ℤ) (w : ℕ) → Size w → Wrote l i (signedBytes w z) n → i + w ≤ length l
     → mag z < 256 ^ w / 2 → signedAt w n i ≡ z
 read-cell z w s p h f = rw (read-back w (ofZ w32 z) p h) (sign-back w z s f)
-
--- from the middle of a concatenation
-pub signed-at : (z : ℤ) (w k : ℕ) (p t : List ℕ) → Size w → length p ≡ k → mag z < 256 ^ w / 2
-    → signedAt w (p ++ (signedBytes w z ++ t)) k ≡ z
-signed-at z w k p t s e f = rw (be-at w (ofZ w32 z) k p t e) (sign-back w z s f)
 
 -- i32's least number among them
 pub read-least : {l n : List ℕ} {i : ℕ} → Wrote l i (signedBytes 4 (negsuc 2147483647)) n → i + 4 ≤ length l

@@ -1,13 +1,13 @@
 -- Laws of the search for a delta outside of -65536..65535: a loop over the kept pairs in a loop over the word columns.
-use Prim.Native.Nat.{ℕ, suc, _+_, _<_, _≤_}
-use mathlib.Core.Path.{_≡_, refl, sym, ap, _∙_}
+use Prim.Native.Nat.{ℕ, _+_, _<_, _≤_}
+use mathlib.Core.Path.{_≡_, refl, sym, _∙_}
 use mathlib.Core.Bool.{Bool, true, false}
-use mathlib.Core.List.{List, [], _∷_, map}
+use mathlib.Core.List.{List, map}
 use native.Mathlib.Numerals.{add-one}
 use native.Mathlib.Omega.{arith}
 use lib.ListN.{length, getD, drop, drop-of-length-le}
 use lib.Seq.{drop-cons}
-use Rattle.lists.specs.Pick.{pick, both}
+use Rattle.lists.specs.Pick.{pick}
 use Rattle.lists.specs.Search.{some, any}
 use Rattle.cells.specs.Sign.{outside}
 use Rattle.opentype.specs.Subtable.{long, wordCount, columnCount, delta}

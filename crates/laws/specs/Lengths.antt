@@ -1,29 +1,28 @@
 -- How long the written objects are.
 use Prim.Native.Nat.{ℕ, zero, suc, _+_, _*_, _≤_, _<_}
-use mathlib.Core.Path.{_≡_, refl, sym, ap, _∙_}
+use mathlib.Core.Path.{_≡_, refl, sym, _∙_}
 use mathlib.Core.Bool.{Bool, true, false}
-use mathlib.Core.List.{List, [], _∷_, _++_, map, append-nil}
+use mathlib.Core.List.{List, [], _∷_, map, append-nil}
 use native.Mathlib.Omega.{arith}
 use native.Mathlib.Nat.{zero-mul, suc-mul, mul-le-mul-right}
-use lib.ListN.{length, getD, take, drop, length-append, length-drop}
+use lib.ListN.{length, getD, drop, length-append, length-drop}
 use lib.Seq.{length-take-le}
 use mir.Val.{ofZ}
 use mir.Syntax.{w32}
 use Rattle.lists.specs.Pick.{pick}
 use Rattle.lists.specs.Gather.{flat, select, rank}
 use Rattle.lists.proofs.Pieces.{flat-append}
-use Rattle.lists.proofs.Places.{length-select}
 use Rattle.lists.proofs.Members.{length-map}
 use Rattle.lists.proofs.Stands.{length-flat}
 use Rattle.cells.specs.Be.{beBytes}
 use Rattle.cells.specs.Sign.{signedBytes}
 use Rattle.cells.proofs.Cells.{length-beBytes}
-use Rattle.opentype.specs.Store.{subtableAt, regionsAt, axisCount, regionCount, recordLength, regionRecord}
+use Rattle.opentype.specs.Store.{subtableAt, regionsAt, regionCount, recordLength, regionRecord}
 use Rattle.opentype.specs.Subtable.{wordSize, restSize, regionIndex, delta}
 use Rattle.rules.specs.Lists.{Run}
 use Rattle.rules.specs.Columns.{Plan, planOf, order}
 use Rattle.rules.specs.Regions.{isUsed, usedRegions, newRegion, regionListBytes}
-use Rattle.rules.specs.Rewrite.{rowBytes, newWordField, plannedBytes, subtableBytes}
+use Rattle.rules.specs.Rewrite.{rowBytes, plannedBytes, subtableBytes}
 use Rattle.rules.specs.StoreCut.{offsets, layStore, storeBytes, nullStore}
 
 unfoldable pub sum : List ℕ → ℕ

@@ -2,7 +2,7 @@
 use Prim.Native.Nat.{ℕ, _+_}
 use mathlib.Core.Path.{_≡_, refl, sym, ap, _∙_}
 use mathlib.Core.Bool.{Bool, true, false, not}
-use mathlib.Core.List.{List, _++_}
+use mathlib.Core.List.{List}
 use lib.ListN.{length, length-append}
 use lib.Dec.{ltb}
 use lib.IntN.{ℤ}
@@ -12,7 +12,6 @@ use Rattle.lists.specs.Search.{some, any, all}
 use Rattle.lists.proofs.Anys.{any-append, any-select, any-there, some-or, some-ext}
 use Rattle.cells.specs.Sign.{outside, nil}
 use Rattle.opentype.specs.Subtable.{columnCount}
-use Rattle.rules.specs.declared.Class.{Class}
 use Rattle.rules.specs.declared.Class.the-variants.{Dropped, Narrow, Wide}
 use Rattle.rules.specs.Columns.{planOf, planWith, order, keptDeltas, keepsLong, classOf, isWide, isNarrow, narrowLimit, live}
 

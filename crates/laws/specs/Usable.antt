@@ -10,7 +10,7 @@ use Rattle.lists.specs.Search.{any}
 use Rattle.lists.proofs.Each.{neither}
 use Rattle.opentype.specs.Store.{subtableCount, subtableAt}
 use Rattle.rules.specs.declared.Refusal.the-variants.{AbsentSubtable, BadSubtable}
-use Rattle.rules.specs.Numbers.{Outcome, refused, written}
+use Rattle.rules.specs.Numbers.{written}
 use Rattle.rules.specs.Lists.{Run}
 use Rattle.rules.specs.Open.{absentSubtable, badSubtable}
 use Rattle.rules.specs.StoreCut.{subtablesOr}

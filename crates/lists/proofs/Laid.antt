@@ -1,6 +1,6 @@
 -- A loop that lays f 0, f 1, .. one after the other: the invariant, and its steps.
-use mathlib.Core.Path.{_≡_, refl, sym, ap, _∙_}
-use mathlib.Core.List.{List, [], _++_, append-nil}
+use mathlib.Core.Path.{_≡_, refl, sym, _∙_}
+use mathlib.Core.List.{List, _++_}
 use Prim.Native.Nat.{ℕ, _+_, _-_, _≤_, _<_}
 use native.Mathlib.Omega.{arith}
 use lib.ListN.{length, drop}
@@ -41,8 +41,3 @@ laid-all {old = old} {at = at} n l e h =
     let p = laid-end n l e in
     let g : length old ≤ at = omega arith in
     p .1 ∙ all-laid _ _ _ g
-
--- a turn that lays nothing
-pub laid-skip : {f : ℕ → List ℕ} {old : List ℕ} {k at : ℕ} {out : List ℕ} → Laid f old k at out → f k ≡ [] → Laid f old (k + 1) at out
-laid-skip {f} {k = k} l e =
-    record { up-to = rw (gather-more, e, append-nil) (l .up-to); same = l .same; is = rw (gather-more, e, append-nil) (l .is) }

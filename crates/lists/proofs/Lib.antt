@@ -14,7 +14,6 @@ pub mod Cuts
 pub mod Writes
 pub mod Laid
 pub mod Fronts
-pub mod Stored
 pub mod Stands
 pub mod Gathered
 pub mod Selected

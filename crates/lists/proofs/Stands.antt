@@ -12,13 +12,6 @@ pub record Stands (w : List ℕ) (at : ℕ) (xs : List ℕ) : Type 0 where
   pub inside : at + length xs ≤ length w
   pub each : (k : ℕ) → k < length xs → getD w (at + k) 0 ≡ getD xs k 0
 
--- whatever follows
-pub stands-first : (xs rest : List ℕ) → Stands (xs ++ rest) 0 xs
-stands-first xs rest = record {
-  inside = rw length-append (omega arith);
-  each = λ k h. rw zero-add (List·getD-append xs rest 0 k h);
-}
-
 pub stands-all : (w : List ℕ) → Stands w 0 w
 stands-all w = record { inside = omega arith; each = λ k h. rw zero-add refl }
 

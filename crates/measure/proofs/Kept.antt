@@ -1,24 +1,21 @@
 -- What is known of the columns of a planned subtable.
-use Prim.Native.Nat.{ℕ, zero, suc, _+_, _*_, _-_, _<_, _≤_}
-use mathlib.Core.Path.{_≡_, refl, sym, ap, _∙_}
+use Prim.Native.Nat.{ℕ, _+_, _*_, _-_, _<_, _≤_}
+use mathlib.Core.Path.{_≡_, sym, ap, _∙_}
 use mathlib.Core.Bool.{Bool, true, false}
-use mathlib.Core.List.{List, [], _∷_, _++_}
-use mathlib.Core.Logic.{⊎-elim}
+use mathlib.Core.List.{List, []}
 use native.Mathlib.Omega.{arith}
-use native.Mathlib.Nat.{mul-le-mul-left, not-suc-le-zero, eq-or-lt-of-le, le-of-suc-le-suc}
-use lib.ListN.{length, getD, drop, length-drop, length-append, List·getD-append}
-use lib.Seq.{getD-at, length-take-le}
-use lib.Dec.{leb, ltb}
-use borrow.Author.Tests.{lt-leb, leb-false}
-use Rattle.lists.specs.Pick.{pick, both}
-use Rattle.lists.specs.Gather.{tab}
+use native.Mathlib.Nat.{mul-le-mul-left}
+use lib.ListN.{length, getD, drop, length-drop, length-append}
+use lib.Seq.{length-take-le}
+use lib.Dec.{ltb}
+use Rattle.lists.specs.Pick.{both}
 use Rattle.lists.specs.Search.{some, any}
 use Rattle.lists.proofs.Members.{length-map}
 use Rattle.lists.proofs.Pieces.{length-tab}
 use Rattle.lists.proofs.Tabs.{getD-tab}
 use Rattle.lists.proofs.Each.{any-not, any-at}
-use Rattle.opentype.specs.Subtable.{columnCount, regionIndex, wordSize, restSize}
-use Rattle.rules.specs.Columns.{planOf, order, live}
+use Rattle.opentype.specs.Subtable.{columnCount, wordSize, restSize}
+use Rattle.rules.specs.Columns.{planOf, live}
 use Rattle.rules.specs.Lists.{inner}
 use Rattle.readers.specs.Opened.{Opened}
 use Rattle.readers.specs.declared.subtable.Subtable.{Subtable}
@@ -27,7 +24,7 @@ use Rattle.laws.specs.Lengths.{sizeAt, length-planned}
 use Rattle.rows.specs.declared.Columns.{Columns}
 use Rattle.rows.specs.Area.{part, items, columnIn, columnsIn}
 use Rattle.rows.specs.Length.{plannedLength}
-use Rattle.rows.specs.Planned.{Planned, Inside}
+use Rattle.rows.specs.Planned.{Planned}
 
 module _ {s : List ℕ} {at : ℕ} {is w : List ℕ} {r : Columns} (p : Planned s at is w r) where
   columns-length : length (columnsIn w (r .wide) (r .narrow)) ≡ r .wide + r .narrow

@@ -1,21 +1,21 @@
 -- One run after the other: what is measured, and what is left.
-use Prim.Native.Nat.{ℕ, _+_, _-_, _*_, _^_, _<_, _≤_}
+use Prim.Native.Nat.{ℕ, _+_, _-_, _*_, _<_, _≤_}
 use mathlib.Core.Path.{_≡_, refl, sym, ap, _∙_}
 use mathlib.Core.Bool.{Bool, true, false, false≢true}
-use mathlib.Core.List.{List, [], _∷_, _++_, map, append-assoc, append-nil}
+use mathlib.Core.List.{List, [], _∷_, _++_, append-assoc, append-nil}
 use native.Mathlib.Omega.{arith}
 use native.Mathlib.Numerals.{add-one}
 use lib.ListN.{length, getD, take, drop, set, replicate, length-drop, length-replicate}
 use lib.Seq.{drop-set-add, take-suc-set, take-set-le, length-take-le, take-at, drop-at, getD-take, drop-length}
 use lib.Dec.{leb, eqb}
-use Rattle.lists.specs.Pick.{pick, both}
-use Rattle.lists.specs.Search.{some, any}
+use Rattle.lists.specs.Pick.{pick}
+use Rattle.lists.specs.Search.{any}
 use Rattle.lists.proofs.Cuts.{part-same, front-same}
 use Rattle.bits.specs.Bits.{has}
 use Rattle.bits.proofs.Sets.{has-zeros}
 use borrow.Rule.Slice.PartMut.{putMid}
-use Rattle.opentype.specs.Store.{subtableAt, subtableCount, regionCount}
-use Rattle.opentype.specs.Subtable.{columnCount, regionIndex}
+use Rattle.opentype.specs.Store.{subtableAt, regionCount}
+use Rattle.opentype.specs.Subtable.{regionIndex}
 use Rattle.rules.specs.declared.Refusal.{Refusal}
 use Rattle.rules.specs.declared.Refusal.the-variants.{AbsentSubtable, BadSubtable}
 use Rattle.rules.specs.Numbers.{Outcome, refused}

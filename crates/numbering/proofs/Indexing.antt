@@ -8,7 +8,7 @@ use lib.Seq.{take-set-le, getD-take, length-take-le}
 use Rattle.lists.proofs.Cuts.{place-same}
 use Rattle.rules.specs.Lists.{outer}
 use Rattle.numbering.specs.Numbered.{Numbered}
-use Rattle.numbering.proofs.Once.{member-at}
+use Rattle.lists.proofs.Members.{member-at}
 use Rattle.numbering.proofs.Starts.{used-member}
 
 -- the start of a segment is noted, the shift, the place of a slot's first pair

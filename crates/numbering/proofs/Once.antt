@@ -1,16 +1,17 @@
 -- No kept pair stands twice: where one stands is its place.
 use Prim.Native.Nat.{ℕ, zero, suc, _<_, _≤_}
-use mathlib.Core.Path.{_≡_, refl, sym, ap, _∙_}
+use mathlib.Core.Path.{_≡_, sym, ap, _∙_}
 use mathlib.Core.Bool.{true, false, true≢false}
 use mathlib.Core.List.{List, [], _∷_}
 use native.Mathlib.Nat.{not-suc-le-zero}
 use native.Mathlib.Omega.{arith}
-use lib.Dec.{eqb, ltb}
+use lib.Dec.{ltb}
 use lib.ListN.{length, getD, take}
 use lib.Seq.{getD-take, length-take-le}
 use borrow.Author.Tests.{eq-eqb, ne-eqb}
 use Rattle.lists.specs.Search.{member, place}
-use Rattle.lists.proofs.Each.{neither, any-at}
+use Rattle.lists.proofs.Each.{neither}
+use Rattle.lists.proofs.Members.{member-at}
 use Rattle.rules.specs.Lists.{twice, badPairs, outersFall, mostPairs, mostGlyphs}
 use Rattle.rules.specs.Numbering.{keptPairs}
 use Rattle.laws.specs.Kept.{kept-good}
@@ -20,11 +21,6 @@ unfolding badPairs
 kept-once maps t es l most h =
     let ps = keptPairs maps t es in
     neither (outersFall ps) (twice ps) (neither (ltb mostPairs (length ps)) _ (kept-good maps t es l most h) .1) .1
-
--- an element is a member
-pub member-at : (ps : List ℕ) (h : ℕ) → h < length ps → member (getD ps h 0) ps ≡ true
-unfolding member
-member-at ps h l = any-at (λ y. eqb (getD ps h 0) y) 0 ps h l (eq-eqb (getD ps h 0) (getD ps h 0) refl)
 
 only-place : (x h : ℕ) (ps : List ℕ) → twice ps ≡ false → h < length ps → getD ps h 0 ≡ x → h ≡ place x ps
 unfolding twice place

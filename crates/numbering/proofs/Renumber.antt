@@ -1,19 +1,18 @@
 -- The new numbers of a kept pair, by the tables of the runs.
 use Prim.Native.Nat.{ℕ, _+_, _-_, _*_, _/_, _<_, _≤_}
-use mathlib.Core.Path.{_≡_, sym, ap, _∙_}
+use mathlib.Core.Path.{_≡_, sym, _∙_}
 use mathlib.Core.Bool.{true}
 use mathlib.Core.List.{List}
 use native.Mathlib.Omega.{arith}
 use lib.ListN.{length, getD, take, drop}
 use lib.Seq.{length-take-le}
-use Rattle.lists.specs.Gather.{rank}
-use Rattle.lists.specs.Search.{member, place}
+use Rattle.lists.specs.Search.{place}
 use Rattle.lists.proofs.Selects.{rank-le}
 use Rattle.lists.proofs.Places.{at-place}
 use Rattle.rules.specs.Lists.{outer, runs}
 use Rattle.rules.specs.Numbering.{newInner}
 use Rattle.readers.specs.declared.map.Pair.{Pair}
-use Rattle.numbering.specs.Numbered.{startOf, used, Numbered, Among, Renumbered}
+use Rattle.numbering.specs.Numbered.{used, Numbered, Among, Renumbered}
 use Rattle.numbering.proofs.Starts.{start-inside, start-place, inner-place, inner-short, used-member, outer-rank}
 
 module _ {w : List ℕ} {n : ℕ} {p : Pair} (k : Numbered w n) (a : Among (take n w) p) where

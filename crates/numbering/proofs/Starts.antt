@@ -1,5 +1,5 @@
 -- Where the runs of pairs start, if outers don't fall; the new numbers by these starts.
-use Prim.Native.Nat.{ℕ, zero, suc, _+_, _*_, _/_, _%_, _<_, _≤_}
+use Prim.Native.Nat.{ℕ, suc, _+_, _<_, _≤_}
 use mathlib.Core.Path.{_≡_, refl, sym, ap, _∙_}
 use mathlib.Core.Bool.{Bool, true, false, false≢true}
 use mathlib.Core.List.{List, [], _∷_, _++_, map}
@@ -7,7 +7,7 @@ use native.Mathlib.Decide.{decLt, ℕ-discrete}
 use native.Mathlib.Nat.{le-refl, zero-add}
 use native.Mathlib.Omega.{arith}
 use lib.Dec.{ltb, eqb}
-use lib.ListN.{length, drop}
+use lib.ListN.{length, drop, length-append}
 use borrow.Author.Tests.{lt-ltb, le-ltb, ltb-true, eq-eqb, ne-eqb, eqb-true}
 use Rattle.lists.specs.Pick.{pick, both}
 use Rattle.lists.specs.Gather.{keep, select, rank}
@@ -16,9 +16,10 @@ use Rattle.lists.proofs.Choices.{either-of, both-of, same-test}
 use Rattle.lists.proofs.Each.{both-hold}
 use Rattle.lists.proofs.Places.{at-place, place-select}
 use Rattle.lists.proofs.Members.{no-member, member-cons, member-map, member-keep, length-map}
+use Rattle.lists.proofs.Sifted.{keep-append}
 use Rattle.lists.proofs.Ascending.{keep-parts, rises-same, rises-select, member-select}
-use Rattle.rules.specs.Lists.{Run, outer, inner, runs}
-use Rattle.rules.specs.Numbering.{innersOf, newOuter, newInner}
+use Rattle.rules.specs.Lists.{outer, inner, runs}
+use Rattle.rules.specs.Numbering.{newOuter, newInner}
 use Rattle.laws.specs.Outers.{Climbs, outersOf, rises-runs, member-outers, inners-of}
 use Rattle.numbering.specs.Numbered.{startOf, used}
 
@@ -41,6 +42,10 @@ pub start-none : (b o : ℕ) (ps : List ℕ) → Climbs b ps → o ≤ b → sta
 start-none b o [] c h = start-nothing o
 start-none b o (q ∷ qs) c h =
     start-step q qs o ∙ rw (le-ltb (outer q) o (omega (arith, c .0))) (start-none (outer q) o qs (c .1) (omega (arith, c .0)))
+
+pub start-append : (xs ys : List ℕ) (o : ℕ) → startOf (xs ++ ys) o ≡ startOf xs o + startOf ys o
+unfolding startOf
+start-append xs ys o = ap length (keep-append (λ p. ltb (outer p) o) xs ys) ∙ length-append (keep (λ p. ltb (outer p) o) xs) (keep (λ p. ltb (outer p) o) ys)
 
 pub start-inside : (ps : List ℕ) (o : ℕ) → startOf ps o ≤ length ps
 unfolding startOf

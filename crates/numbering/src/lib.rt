@@ -5,7 +5,7 @@
 //    9,345   the shift: a slot is for 2^shift inners
 //   12,288   by slot, modulo 4,096, the place of the first pair in it
 ghost use mathlib.Core.Path.{_≡_};
-ghost use mathlib.Core.Bool.{true, false};
+ghost use mathlib.Core.Bool.{false};
 ghost use Prim.Native.Nat.{_+_, _*_, _≤_, _<_};
 ghost use lib.ListN.{length, take, drop};
 ghost use Rattle.lists.specs.Search.{place};

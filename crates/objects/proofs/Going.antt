@@ -2,15 +2,15 @@
 use Prim.Native.Nat.{ℕ, _+_, _-_, _<_, _≤_}
 use mathlib.Core.Path.{_≡_, refl, sym, ap, _∙_}
 use mathlib.Core.Bool.{false}
-use mathlib.Core.List.{List, [], _∷_, _++_}
+use mathlib.Core.List.{List, [], _∷_}
 use native.Mathlib.Omega.{arith}
 use lib.ListN.{length, getD, take, drop, length-take, length-map}
-use lib.Seq.{length-take-le, drop-length}
+use lib.Seq.{drop-length}
 use borrow.Rule.Slice.PartMut.{putMid}
 use Rattle.lists.specs.Gather.{flat}
 use Rattle.lists.proofs.Cuts.{part-same, front-same, place-same}
 use Rattle.opentype.specs.Store.{subtableAt}
-use Rattle.rules.specs.Lists.{Run, runs, outer, outersFall}
+use Rattle.rules.specs.Lists.{runs, outer, outersFall}
 use Rattle.rules.specs.Regions.{usedRegions}
 use Rattle.rules.specs.Rewrite.{subtableBytes}
 use Rattle.laws.specs.Inside.{regions-inside}

@@ -58,9 +58,6 @@ module _ {ns : List ℕ} {first : ℕ} {out : List ℕ} {k at next : ℕ} (o : O
   pub offset-small : next ≤ first + sum ns
   offset-small = omega (arith, sums)
 
-  pub offset-room : at + 4 ≤ length out
-  offset-room = omega (arith, o .place, o .filled .same, length-offsets-by first ns)
-
   pub offset-more : {w : List ℕ} {n : ℕ} (e : ℕ) → e ≡ at + 4 → w ≡ beBytes 4 next → n ≡ getD ns k 0
       → Offset ns first (putMid at (e - at) out w) (k + 1) e (next + n)
   unfolding offsetsBy

@@ -1,18 +1,17 @@
 -- A subtable that 5 and 6 let through, read again.
-use Prim.Native.Nat.{ℕ, _+_, _*_, _%_, _<_, _≤_}
-use mathlib.Core.Path.{_≡_, refl, sym, ap, _∙_}
-use mathlib.Core.Bool.{Bool, true, false}
+use Prim.Native.Nat.{ℕ, _+_, _*_, _%_, _≤_}
+use mathlib.Core.Path.{_≡_}
+use mathlib.Core.Bool.{false}
 use mathlib.Core.List.{List}
 use native.Mathlib.Omega.{arith}
 use lib.ListN.{length}
 use lib.Dec.{leb}
-use Rattle.cells.specs.Be.{be, Cell}
-use Rattle.opentype.specs.Store.{subtableCount, subtableAt}
+use Rattle.cells.specs.Be.{Cell}
+use Rattle.opentype.specs.Store.{subtableAt}
 use Rattle.opentype.specs.Subtable.{itemCount, wordField, wordCount, columnCount, long, lengthOfRow, rowLength, rowsAt}
 use Rattle.rules.specs.Open.{badStore, absentSubtable, badSubtable}
 use Rattle.laws.specs.Inside.{store-inside, SubtableInside, subtable-inside}
 use Rattle.laws.specs.Usable.{in-array}
-use Rattle.readers.specs.declared.subtable.Subtable.{Subtable}
 use Rattle.readers.specs.Opened.{Whole}
 use Rattle.readers.proofs.Subtables.{whole}
 

@@ -1,8 +1,8 @@
 -- The subtables, one run after the other.
 use Prim.Native.Nat.{ℕ, _+_, _-_, _<_, _≤_}
 use mathlib.Core.Path.{_≡_, refl, sym, ap, _∙_}
-use mathlib.Core.Bool.{Bool, true, false}
-use mathlib.Core.List.{List, [], _∷_, _++_, map}
+use mathlib.Core.Bool.{true, false}
+use mathlib.Core.List.{List, [], _∷_}
 use native.Mathlib.Omega.{arith}
 use native.Mathlib.Nat.{add-zero}
 use lib.ListN.{length, getD, take, drop, length-append, length-drop}
@@ -10,19 +10,18 @@ use lib.Seq.{drop-drop, getD-drop}
 use lib.Dec.{leb, eqb}
 use borrow.Author.Tests.{leb-false, eq-eqb}
 use borrow.Rule.Slice.PartMut.{putMid}
-use Rattle.lists.specs.Pick.{pick, both}
-use Rattle.lists.specs.Gather.{flat, select}
-use Rattle.lists.specs.Search.{some, any}
+use Rattle.lists.specs.Gather.{flat}
+use Rattle.lists.specs.Search.{any}
 use Rattle.lists.proofs.Each.{neither}
 use Rattle.lists.proofs.Choices.{either-left, either-right}
 use Rattle.lists.proofs.Cuts.{part-same}
 use Rattle.lists.proofs.Selects.{select-ext}
 use Rattle.bits.specs.Bits.{has}
 use Rattle.opentype.specs.Store.{subtableAt, regionCount}
-use Rattle.opentype.specs.Subtable.{columnCount, regionIndex}
+use Rattle.opentype.specs.Subtable.{regionIndex}
 use Rattle.rules.specs.Lists.{Run, outer}
 use Rattle.rules.specs.Open.{absentSubtable, badSubtable}
-use Rattle.rules.specs.Columns.{live, planOf}
+use Rattle.rules.specs.Columns.{planOf}
 use Rattle.rules.specs.Regions.{usesRegion, isUsed, usedRegions}
 use Rattle.rules.specs.Rewrite.{plannedBytes, subtableBytes}
 use Rattle.rules.specs.StoreCut.{someColumn, badRegionIndex}

@@ -1,32 +1,29 @@
 -- From what the first pass found to the plan.
-use Prim.Native.Nat.{ℕ, _+_, _*_, _^_, _<_, _≤_}
-use mathlib.Core.Path.{_≡_, refl, sym, ap, _∙_}
+use Prim.Native.Nat.{ℕ, _+_, _*_, _≤_}
+use mathlib.Core.Path.{_≡_, sym, _∙_}
 use mathlib.Core.Bool.{Bool, true, false, not}
 use mathlib.Core.List.{List, []}
 use native.Mathlib.Omega.{arith}
 use native.Mathlib.Nat.{mul-le-mul}
 use lib.ListN.{length}
 use borrow.Author.Tests.{eq-eqb, ne-eqb}
-use Rattle.lists.specs.Pick.{pick, both}
+use Rattle.lists.specs.Pick.{both}
 use Rattle.lists.specs.Gather.{rank}
-use Rattle.lists.specs.Search.{any}
-use Rattle.lists.proofs.Selects.{rank-ext, rank-le}
+use Rattle.lists.proofs.Selects.{rank-ext}
 use Rattle.bits.specs.Bits.{has}
 use Rattle.opentype.specs.Store.{regionsAt, axisCount, regionCount, recordLength}
-use Rattle.rules.specs.declared.Refusal.{Refusal}
 use Rattle.rules.specs.declared.Refusal.the-variants.{BadRegions, NothingKept, BadRegionIndex, MiddleWidth}
-use Rattle.rules.specs.Numbers.{Outcome, refused, written}
+use Rattle.rules.specs.Numbers.{refused, written}
 use Rattle.rules.specs.Lists.{Run, outersFall, runs}
 use Rattle.rules.specs.Open.{badStore, badRegions}
 use Rattle.rules.specs.Regions.{isUsed}
-use Rattle.rules.specs.StoreCut.{someDelta, badRegionIndex, middleWidth, storeBytes, storeWritten, nullStore, checkedCut, cutOpened}
+use Rattle.rules.specs.StoreCut.{storeBytes, storeWritten, nullStore, checkedCut, cutOpened}
 use Rattle.laws.specs.Inside.{regions-inside}
-use Rattle.laws.specs.Lengths.{sum, sizes, length-bytes}
+use Rattle.laws.specs.Lengths.{length-bytes}
 use Rattle.laws.specs.Usable.{all-usable}
 use Rattle.rows.specs.Area.{usedIn}
 use Rattle.measure.specs.declared.Measure.{Measure}
 use Rattle.measure.specs.Measured.{Whole}
-use Rattle.plan.specs.declared.Layout.{Layout}
 use Rattle.plan.specs.declared.Planned.{Planned}
 use Rattle.plan.specs.Layout.{Ready, cutRuns, PlannedAs}
 

@@ -1,7 +1,7 @@
 // Plays recorded cuts of a store: each call's number and length, its output, also behind the length, and its work area are
 // compared with the record's.
 ghost use mathlib.Core.Path.{_≡_};
-ghost use Prim.Native.Nat.{_*_, _≤_};
+ghost use Prim.Native.Nat.{_*_};
 ghost use lib.ListN.{length};
 use cells::u32_at;
 use rules::Answer;

@@ -1,7 +1,7 @@
 -- Demand 2 for stores, proved: a cut keeps every kept delta, under the same region.
 use Prim.Native.Nat.{ℕ, _+_, _*_, _<_, _≤_}
 use mathlib.Core.Path.{_≡_, sym, ap, _∙_}
-use mathlib.Core.Bool.{Bool, true, false, false≢true}
+use mathlib.Core.Bool.{true, false≢true}
 use mathlib.Core.List.{List}
 use native.Mathlib.Omega.{arith}
 use native.Mathlib.Nat.{le-trans}
@@ -12,16 +12,13 @@ use Rattle.lists.specs.Search.{all}
 use Rattle.lists.proofs.Each.{all-at}
 use Rattle.lists.proofs.Stands.{Stands, stands-all}
 use Rattle.cells.specs.Sign.{nil}
-use Rattle.opentype.specs.Store.{subtableAt, subtableCount, regionsAt, regionRecord}
+use Rattle.opentype.specs.Store.{subtableAt, subtableCount, regionRecord}
 use Rattle.opentype.specs.Subtable.{delta}
-use Rattle.rules.specs.Numbers.{written}
-use Rattle.rules.specs.Lists.{runs, outersFall, mostPairs}
-use Rattle.rules.specs.Open.{badStore}
+use Rattle.rules.specs.Lists.{runs}
 use Rattle.rules.specs.Columns.{order, keptDeltas}
-use Rattle.rules.specs.StoreCut.{cutOpened}
-use Rattle.demands.specs.Reading.{Bytes, Readable, runAt}
+use Rattle.demands.specs.Reading.{Readable, runAt}
 use Rattle.demands.specs.KeepsStore.{KeptSubtable, KeptStore, KeepsStore, KeepsSums}
-use Rattle.reread.proofs.Accepted.{Accepted, opened-accepted, store-accepted}
+use Rattle.reread.proofs.Accepted.{Accepted, store-accepted}
 use Rattle.reread.proofs.Open.{good-store, good-regions, good-offset, good-subtable}
 use Rattle.reread.proofs.Columns.{order-few, order-inside, order-once, order-out}
 use Rattle.reread.proofs.Fit.{kept-at, length-kept}
@@ -89,12 +86,6 @@ module _ {s pairs st w : List ℕ} (ok : Accepted s pairs st) (laid : Stands w 0
   -- w may be longer than the store: a table's store runs to the table's end
   pub kept-laid : KeptStore s pairs w
   kept-laid = record { readable = readable; count = count; subtables = kept-subtable }
-
--- for an accepted cut after check 3, as a table makes it
-pub kept-opened : (s pairs st : List ℕ) (keepEmpty : Bool) → Bytes s → badStore s ≡ false → length pairs ≤ mostPairs → outersFall pairs ≡ false
-    → cutOpened s pairs keepEmpty ≡ written st → (regionsAt s ≡ 0 → ⊥) → KeptStore s pairs st
-kept-opened s pairs st keepEmpty bytes store most rise cut here =
-    kept-laid (opened-accepted s pairs st keepEmpty bytes store most rise cut here) (stands-all st)
 
 pub keeps-store : KeepsStore
 unfolding KeepsStore

@@ -48,9 +48,6 @@ inner-narrow t at g e h = omega (arith, mod-lt (entry t at g) (pow-pos (innerBit
 pub outer-is : {pair : ℕ} {p : Pair} → Paired pair p → outer pair ≡ p .outer
 outer-is {pair} p = omega (arith, p .is, p .small)
 
-pub inner-is : {pair : ℕ} {p : Pair} → Paired pair p → inner pair ≡ p .inner
-inner-is {pair} p = omega (arith, p .is, p .small)
-
 pub is-past : {pair count : ℕ} {p : Pair} → Paired pair p → count ≤ p .outer → leb count (outer pair) ≡ true
 is-past {pair} {count} p h = rw (outer-is p) (le-leb count _ h)
 

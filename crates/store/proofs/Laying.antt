@@ -1,9 +1,9 @@
 -- The objects of a planned store, laid one after the other.
 use Prim.Native.Nat.{ℕ, _+_, _-_, _*_, _^_, _<_, _≤_}
-use mathlib.Core.Path.{_≡_, refl, sym, ap, _∙_}
+use mathlib.Core.Path.{_≡_, refl, sym, _∙_}
 use mathlib.Core.List.{List, [], _∷_, _++_, map}
 use native.Mathlib.Omega.{arith}
-use lib.ListN.{length, take, drop, length-append, length-take, length-drop, length-map}
+use lib.ListN.{length, take, drop, length-append, length-map}
 use borrow.Rule.Slice.PartMut.{putMid}
 use Rattle.lists.specs.Gather.{flat, rank}
 use Rattle.lists.proofs.Selects.{rank-ext}
@@ -11,7 +11,7 @@ use Rattle.lists.proofs.Parts.{put-next, all-laid}
 use Rattle.bits.specs.Bits.{has}
 use Rattle.cells.specs.Be.{beBytes}
 use Rattle.cells.proofs.Cells.{length-beBytes}
-use Rattle.opentype.specs.Store.{axisCount, regionCount, recordLength}
+use Rattle.opentype.specs.Store.{regionCount, recordLength}
 use Rattle.rules.specs.Lists.{Run, runs}
 use Rattle.rules.specs.Regions.{isUsed, usedRegions, regionListBytes}
 use Rattle.rules.specs.Rewrite.{subtableBytes}
@@ -20,7 +20,7 @@ use Rattle.laws.specs.Inside.{regions-inside}
 use Rattle.laws.specs.Lengths.{sum, sizes, length-list, length-bytes, subtable-sizes}
 use Rattle.rows.specs.Area.{usedIn, usedOf}
 use Rattle.plan.specs.declared.Layout.{Layout}
-use Rattle.plan.specs.Layout.{Passed, Ready}
+use Rattle.plan.specs.Layout.{Ready}
 use Rattle.objects.specs.Offsets.{offsetsBy}
 use Rattle.objects.proofs.Lists.{offsets-by, length-offsets-by, noted-length}
 use Rattle.objects.proofs.Runs.{used-are}

@@ -3,7 +3,7 @@ use Prim.Native.Nat.{ℕ, _+_, _*_, _-_, _≤_}
 use mathlib.Core.Path.{_≡_, refl, sym, ap, _∙_}
 use mathlib.Core.List.{List, [], _++_}
 use native.Mathlib.Omega.{arith}
-use lib.ListN.{length, getD, length-append}
+use lib.ListN.{length, length-append}
 use borrow.Rule.Slice.PartMut.{putMid}
 use Rattle.lists.specs.Pick.{pick}
 use Rattle.lists.specs.Gather.{flat}
@@ -22,7 +22,6 @@ use Rattle.rows.specs.Planned.{Planned}
 use Rattle.rows.specs.Length.{rowOf, plannedLength}
 use Rattle.subtables.specs.Written.{columnsFrom, itemsIn, planIn, indexesOf}
 use Rattle.subtables.proofs.Plans.{columns-order, plan-in, items-in}
-use Rattle.subtables.proofs.Writing.{length-row}
 
 -- the header of so many items
 abbrev pub headerOf : Columns → ℕ → List ℕ

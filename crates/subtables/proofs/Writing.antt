@@ -14,7 +14,6 @@ use Rattle.lists.proofs.Pieces.{length-tab, gather-length}
 use Rattle.lists.proofs.Tabs.{gather-tab}
 use Rattle.lists.proofs.Fronts.{Fronted, fronted-inside, fronted-all}
 use Rattle.lists.proofs.Places.{place-select}
-use Rattle.lists.proofs.Stands.{length-flat}
 use Rattle.lists.proofs.Laid.{Laid}
 use Rattle.lists.proofs.Evenly.{even-room, even-more, even-all}
 use Rattle.cells.specs.Be.{beBytes, Wrote}

@@ -1,15 +1,13 @@
 -- The chain of a table's checks: which outcome each answer stands for.
-use Prim.Native.Nat.{ℕ, _+_, _-_, _*_, _<_, _≤_}
-use mathlib.Core.Path.{_≡_, refl, sym, ap, _∙_}
-use mathlib.Core.Bool.{Bool, true, false}
+use Prim.Native.Nat.{ℕ, _-_, _<_, _≤_}
+use mathlib.Core.Path.{_≡_, ap, _∙_}
+use mathlib.Core.Bool.{true, false}
 use mathlib.Core.List.{List}
 use native.Mathlib.Omega.{arith}
 use lib.ListN.{length, take, drop, length-drop}
 use lib.Seq.{take-all}
 use native.Mathlib.Nat.{le-of-eq}
-use lib.Dec.{eqb}
 use borrow.Author.Tests.{lt-ltb, eq-eqb, ne-eqb}
-use Rattle.cells.specs.Be.{be}
 use Rattle.opentype.specs.Store.{subtableCount}
 use Rattle.opentype.specs.Table.{storeAt, storeOf}
 use Rattle.rules.specs.declared.Refusal.the-variants.{BadList, BadStore, BadHeader, BadMap, BadOuter, EmptyStore}

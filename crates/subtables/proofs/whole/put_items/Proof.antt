@@ -1,7 +1,6 @@
 use Prim.Native.Nat.{_+_, _*_, _%_, _-_, _≤_}
 use mathlib.Core.Path.{_≡_, refl, ap, sym, _∙_}
 use native.Mathlib.Omega.{arith}
-use native.Mathlib.Nat.{le-refl}
 use lib.ListN.{length, getD}
 use borrow.Rule.Slice.PartMut.{midOf, mid-len}
 use denote.Ref.{now}
