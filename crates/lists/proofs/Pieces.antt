@@ -50,10 +50,6 @@ gather-flat f xs (suc n) h =
     let l : n ≤ length xs = omega arith in
     simp (take-suc xs n 0 h, flat-append, gather-flat f xs n l, append-nil)
 
-pub tab-none : {A : Type 0} (f : ℕ → A) → tab f 0 ≡ []
-unfolding tab
-tab-none f = refl
-
 pub tab-more : {A : Type 0} (f : ℕ → A) (n : ℕ) → tab f (n + 1) ≡ tab f n ++ f n ∷ []
 unfolding tab
 tab-more f n = rw add-one

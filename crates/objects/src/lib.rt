@@ -21,16 +21,15 @@ ghost use Rattle.objects.specs.Offsets.{offsetsBy};
 ghost use Rattle.objects.specs.Runs.{runIn, RunReady};
 use cells::put_u16;
 use cells::put_u32;
-use cells::u16_at;
 use cells::u32_at;
+use copies::copy;
 use plan::Layout;
 use plan::list_length;
 use plan::regions_at;
 use readers::subtable::Subtable;
-use readers::subtable::row_length;
+use readers::subtable::subtable_of;
 use rows::plan_columns;
 use subtables::put_subtable;
-use subtables::whole::copy;
 
 // The 8 bytes of a header: format 1, the place of the region list, how many subtables.
 pub fn put_header(out: &mut [u8], list: usize, count: usize)
@@ -110,29 +109,13 @@ pub fn put_region_list(out: &mut [u8], work: &[u32], s: &[u8], l: Layout)
     put_records(&mut out[4..end], work, s, 6 * axes, l.regions);
 }
 
-// The fields of a subtable that 5 and 6 let through.
-fn subtable_of(s: &[u8], outer: usize) -> Subtable
+// The subtable of an outer that 5 and 6 let through.
+fn subtable_named(s: &[u8], outer: usize) -> Subtable
     requires { ⌜ badStore (now s) ≡ false ⌝ }
     requires { ⌜ (absentSubtable (now s) outer ≡ false) × (badSubtable (now s) (subtableAt (now s) outer) ≡ false) ⌝ }
     ensures { λ r. ⌜ Whole (now (s .entry)) (subtableAt (now (s .entry)) outer) r ⌝ }
 {
-    let at = u32_at(s, 8 + 4 * outer) as usize;
-    let field = u16_at(s, at + 2) as usize;
-    let words = field % 32768;
-    let columns = u16_at(s, at + 4) as usize;
-    let long = 32768 <= field;
-    let items = u16_at(s, at) as usize;
-    let row = row_length(long, words, columns);
-    let rows = at + 6 + 2 * columns;
-    Subtable {
-        at: at,
-        items: items,
-        words: words,
-        columns: columns,
-        long: long,
-        row: row,
-        rows: rows,
-    }
+    subtable_of(s, u32_at(s, 8 + 4 * outer) as usize)
 }
 
 // The subtable of the pairs from..to, into its part of the output. Its columns are planned anew.
@@ -144,7 +127,7 @@ fn put_run(out: &mut [u8], work: &mut [u32], s: &[u8], from: usize, to: usize)
     ensures { λ _. ⌜ now (out .exit) ≡ subtableBytes (now (s .entry)) (usedOf (now (s .entry)) (now (work .entry))) (runIn (now (work .entry)) from to) ⌝ }
     ensures { λ _. ⌜ take 12288 (now (work .exit)) ≡ take 12288 (now (work .entry)) ⌝ }
 {
-    let t = subtable_of(s, (work[from] / 65536) as usize);
+    let t = subtable_named(s, (work[from] / 65536) as usize);
     let p = plan_columns(work, s, t, from, to);
     put_subtable(out, work, s, t, p, from, to);
 }

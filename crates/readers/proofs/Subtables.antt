@@ -4,7 +4,7 @@ use mathlib.Core.Path.{_≡_, refl, ap, _∙_}
 use mathlib.Core.Bool.{Bool, true, false, false≢true}
 use mathlib.Core.List.{List}
 use native.Mathlib.Omega.{arith}
-use borrow.Author.Tests.{le-ltb, le-leb, lt-leb, ne-eqb}
+use borrow.Author.Tests.{le-leb, lt-leb, ne-eqb}
 use lib.ListN.{length}
 use lib.Dec.{leb}
 use lib.IntN.{ℤ, pos}
@@ -17,47 +17,47 @@ use Rattle.rules.specs.Open.{absentSubtable, badSubtable}
 use Rattle.rules.specs.declared.Refusal.the-variants.{AbsentSubtable, BadSubtable}
 use Rattle.rules.specs.declared.Refusal.{Refusal}
 use Rattle.lists.specs.Pick.{pick}
+use Rattle.laws.specs.Inside.{subtable-inside}
 use Rattle.laws.specs.Rows.{row-inside, row-short, cell-inside}
 use Rattle.readers.specs.declared.subtable.Subtable.{Subtable}
 use Rattle.readers.specs.declared.subtable.Found.{Found}
 use Rattle.readers.specs.declared.subtable.Found.the-variants.{Open, Refused}
 use Rattle.readers.specs.Opened.{Opened, Whole, OpeningAt, Usable, Unusable, Opening}
 
--- what was read and tested makes an opened subtable
-pub whole : (s : List ℕ) (at : ℕ) {items field columns row : ℕ} → Cell 2 s at items → Cell 2 s (at + 2) field
-    → Cell 2 s (at + 4) columns
-    → row ≡ lengthOfRow (leb 0x8000 field) (field % 0x8000) columns
-    → at + 6 ≤ length s → field % 0x8000 ≤ columns → columns ≤ 4096 → at + 6 + 2 * columns + items * row ≤ length s
-    → Whole s at (record {
-      at = at;
-      items = items;
-      words = field % 0x8000;
-      columns = columns;
-      long = leb 0x8000 field;
-      row = row;
-      rows = at + 6 + 2 * columns;
-    })
-unfolding badSubtable itemCount wordField wordCount columnCount isLong rowLength rowsAt
-whole s at {items} {field} {columns} {row} i f c r h o l n =
-    let b = row-short (leb 0x8000 field) (field % 0x8000) columns o in
-    record {
-      good = rw (← i .is, ← f .is, ← c .is, ← r, le-ltb _ _ h, le-ltb _ _ o, le-ltb _ _ l, le-ltb _ _ n);
-      place = refl;
-      opened = record {
-        items = i .is;
-        words = rw (← f .is);
-        columns = c .is;
-        long = rw (← f .is);
-        row = rw (← f .is, ← c .is) r;
-        rows = rw (← c .is);
-        order = o;
-        few = l;
-        many = omega (arith, i .small);
-        short = omega arith;
-        head = omega arith;
-        inside = n;
-      };
-    }
+-- the fields of a subtable that 6 lets through
+module _ (s : List ℕ) (at : ℕ) (good : badSubtable s at ≡ false) where
+  pub head-inside : at + 6 ≤ length s
+  head-inside = subtable-inside s at good .head
+
+  module _ {field columns : ℕ} (f : Cell 2 s (at + 2) field) (c : Cell 2 s (at + 4) columns) where
+    pub columns-few : (field % 0x8000 ≤ columns) × (columns ≤ 4096)
+    unfolding wordCount wordField columnCount
+    columns-few = rw (f .is, c .is) (subtable-inside s at good .order, subtable-inside s at good .few)
+
+    pub whole : {items row : ℕ} → Cell 2 s at items → row ≡ lengthOfRow (leb 0x8000 field) (field % 0x8000) columns
+        → Whole s at (record { at = at; items = items; words = field % 0x8000; columns = columns; long = leb 0x8000 field; row = row; rows = at + 6 + 2 * columns })
+    unfolding itemCount wordField wordCount columnCount isLong rowLength rowsAt
+    whole {items} {row} i r =
+        let n : at + 6 + 2 * columns + items * row ≤ length s = rw (r, f .is, c .is, i .is) (subtable-inside s at good .inside) in
+        let b = row-short (leb 0x8000 field) (field % 0x8000) columns (columns-few .0) in
+        record {
+          good = good;
+          place = refl;
+          opened = record {
+            items = i .is;
+            words = rw (← f .is);
+            columns = c .is;
+            long = rw (← f .is);
+            row = rw (← f .is, ← c .is) r;
+            rows = rw (← c .is);
+            order = columns-few .0;
+            few = columns-few .1;
+            many = omega (arith, i .small);
+            short = omega (arith, columns-few .1);
+            head = omega arith;
+            inside = n;
+          };
+        }
 
 -- an outer whose offset is r, in a store of n subtables
 pub absent-past : (s : List ℕ) (o : ℕ) {n : ℕ} → n ≡ subtableCount s → n ≤ o → Unusable s o AbsentSubtable

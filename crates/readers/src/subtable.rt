@@ -2,9 +2,9 @@
 ghost use mathlib.Core.Path.{_≡_};
 ghost use mathlib.Core.Bool.{false};
 ghost use Prim.Native.Nat.{_≤_, _<_, _^_};
-ghost use Rattle.rules.specs.Open.{badStore};
+ghost use Rattle.rules.specs.Open.{badStore, badSubtable};
 ghost use Rattle.opentype.specs.Subtable.{regionIndex, lengthOfRow, cellAt, cellSize, delta};
-ghost use Rattle.readers.specs.Opened.{Opened, Opening, OpeningAt};
+ghost use Rattle.readers.specs.Opened.{Opened, Whole, Opening, OpeningAt};
 use rules::Refusal;
 
 // A subtable's fields, each read once: its place in the store, the counts, a row's length, and the place of the rows.
@@ -23,7 +23,7 @@ pub enum Found {
     Refused(Refusal),
 }
 
-pub fn row_length(long: bool, words: usize, columns: usize) -> usize
+fn row_length(long: bool, words: usize, columns: usize) -> usize
     requires { ⌜ (words ≤ columns) × (columns ≤ 4096) ⌝ }
     ensures { λ r. ⌜ r ≡ lengthOfRow long words columns ⌝ }
 {
@@ -57,30 +57,40 @@ pub fn cell_size(long: bool, words: usize, column: usize) -> usize
 }
 
 // 6
-pub fn subtable_at(s: &[u8], at: usize) -> Found
+fn bad_subtable(s: &[u8], at: usize) -> bool
     requires { ⌜ at < 2 ^ 32 ⌝ }
-    ensures { λ r. ⌜ OpeningAt (now (s .entry)) at r ⌝ }
+    ensures { λ r. ⌜ r ≡ badSubtable (now (s .entry)) at ⌝ }
 {
     if s.len() < at + 6 {
-        return Found::Refused(Refusal::BadSubtable);
+        return true;
     }
     let field = cells::u16_at(s, at + 2) as usize;
     let words = field % 32768;
     let columns = cells::u16_at(s, at + 4) as usize;
     if columns < words {
-        return Found::Refused(Refusal::BadSubtable);
+        return true;
     }
     if columns > 4096 {
-        return Found::Refused(Refusal::BadSubtable);
+        return true;
     }
+    let items = cells::u16_at(s, at) as usize;
+    let row = row_length(32768 <= field, words, columns);
+    s.len() < at + 6 + 2 * columns + items * row
+}
+
+// The fields of a subtable that 6 lets through.
+pub fn subtable_of(s: &[u8], at: usize) -> Subtable
+    requires { ⌜ badSubtable (now s) at ≡ false ⌝ }
+    ensures { λ r. ⌜ Whole (now (s .entry)) at r ⌝ }
+{
+    let field = cells::u16_at(s, at + 2) as usize;
+    let words = field % 32768;
+    let columns = cells::u16_at(s, at + 4) as usize;
     let long = 32768 <= field;
     let items = cells::u16_at(s, at) as usize;
     let row = row_length(long, words, columns);
     let rows = at + 6 + 2 * columns;
-    if s.len() < rows + items * row {
-        return Found::Refused(Refusal::BadSubtable);
-    }
-    Found::Open(Subtable {
+    Subtable {
         at: at,
         items: items,
         words: words,
@@ -88,7 +98,17 @@ pub fn subtable_at(s: &[u8], at: usize) -> Found
         long: long,
         row: row,
         rows: rows,
-    })
+    }
+}
+
+fn subtable_at(s: &[u8], at: usize) -> Found
+    requires { ⌜ at < 2 ^ 32 ⌝ }
+    ensures { λ r. ⌜ OpeningAt (now (s .entry)) at r ⌝ }
+{
+    if bad_subtable(s, at) {
+        return Found::Refused(Refusal::BadSubtable);
+    }
+    Found::Open(subtable_of(s, at))
 }
 
 // 5, then 6, in a store that row 3 lets through

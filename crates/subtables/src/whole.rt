@@ -9,6 +9,7 @@ ghost use Rattle.readers.specs.Opened.{Opened};
 ghost use Rattle.subtables.specs.Kept.{Fitted, KeptWhole};
 ghost use Rattle.subtables.specs.Written.{itemsIn, planIn};
 use crate::by_cell::put_row;
+use copies::copy_ahead;
 use readers::subtable::Subtable;
 use rows::Columns;
 use rows::column_at;
@@ -37,55 +38,6 @@ pub fn is_whole(work: &[u32], t: Subtable, p: Columns) -> bool
         j += 1;
     }
     true
-}
-
-pub fn copy(out: &mut [u8], s: &[u8])
-    requires { ⌜ length (now out) ≡ length (now s) ⌝ }
-    ensures { λ _. ⌜ now (out .exit) ≡ now (s .entry) ⌝ }
-{
-    let mut i = 0;
-    while i < s.len() {
-        out[i] = s[i];
-        i += 1;
-    }
-}
-
-// By way of a block of its own: the compiler then moves all 16 bytes at once, as it need not ask whether the two parts overlap.
-fn copy_block(out: &mut [u8], s: &[u8])
-    requires { ⌜ (length (now out) ≡ 16) × (length (now s) ≡ 16) ⌝ }
-    ensures { λ _. ⌜ now (out .exit) ≡ now (s .entry) ⌝ }
-{
-    let mut block = [0; 16];
-    copy(&mut block[0..16], s);
-    copy(out, &block[0..16]);
-}
-
-// Whether a part of a bytes and one of b have room for n, and for what the last block may reach past them.
-fn has_blocks(a: usize, b: usize, n: usize) -> bool
-    requires { ⌜ (n ≤ a) × (n ≤ b) ⌝ }
-    ensures { λ r. ⌜ (r ≡ true → (n + 15 ≤ a) × (n + 15 ≤ b)) ⌝ }
-{
-    if a - n < 15 {
-        return false;
-    }
-    15 <= b - n
-}
-
-// Copies n bytes, in blocks if there is room: the last one may reach past them, so what the output holds there is not promised.
-fn copy_ahead(out: &mut [u8], s: &[u8], n: usize)
-    requires { ⌜ (n ≤ length (now out)) × (n ≤ length (now s)) ⌝ }
-    ensures { λ _. ⌜ take n (now (out .exit)) ≡ take n (now (s .entry)) ⌝ }
-{
-    if !has_blocks(out.len(), s.len(), n) {
-        copy(&mut out[0..n], &s[0..n]);
-        return;
-    }
-    let mut at = 0;
-    while at < n {
-        let end = at + 16;
-        copy_block(&mut out[at..end], &s[at..end]);
-        at = end;
-    }
 }
 
 // Writes the row of an item to the front of the output. What lies behind it there is not promised: the rows to come are written over it.

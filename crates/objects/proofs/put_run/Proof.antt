@@ -6,19 +6,19 @@ use Rattle.objects.proofs.Runs.{run-planned, run-named, run-length, run
 use Rattle.objects.proofs.put_run.Statement.{statement}
 use Rattle.objects.proofs.put_run.Tie as tie
 
-cast-subtable-of : tie.Need-cast-subtable-of
-cast-subtable-of c = omega (arith, c .slice-known3 .given (c .before .before .before .before .args .from))
+cast-subtable-named : tie.Need-cast-subtable-named
+cast-subtable-named c = omega (arith, c .slice-known3 .given (c .before .before .before .before .args .from))
 
-subtable-of-requires : tie.Need-subtable-of-requires
-subtable-of-requires c κs = let s = c .before .before .before .before in (s .pre .1 .0, ready-usable (s .pre .1 .1 .0))
+subtable-named-requires : tie.Need-subtable-named-requires
+subtable-named-requires c κs = let s = c .before .before .before .before in (s .pre .1 .0, ready-usable (s .pre .1 .1 .0))
 
 plan-columns-requires : tie.Need-plan-columns-requires
-plan-columns-requires c κs = let s = c .before .before .before .before .before .before in (search needs, (search needs, c .before .subtable-of .ensures .opened))
+plan-columns-requires c κs = let s = c .before .before .before .before .before .before in (search needs, (search needs, c .before .subtable-named .ensures .opened))
 
 put-subtable-requires : tie.Need-put-subtable-requires
 put-subtable-requires c κs =
     let s = c .before .before .before .before .before .before .before .before .before .before .before in
-    let u = c .before .before .before .before .before .before .subtable-of .ensures in
+    let u = c .before .before .before .before .before .before .subtable-named .ensures in
     let e = c .before .before .before .before .plan-columns .ensures .1 in
     let q = c .before .before .before .before .plan-columns .ensures .0 in
     let h = le-of-lt (s .pre .0 .1) in
@@ -31,7 +31,7 @@ put-subtable-requires c κs =
 returns : tie.Need-returns
 returns c =
     let s = c .before .before .before .before .before .before .before .before .before .before .before .before .before .before in
-    let u = c .before .before .before .before .before .before .before .before .before .subtable-of .ensures in
+    let u = c .before .before .before .before .before .before .before .before .before .subtable-named .ensures in
     let e = c .before .before .before .before .before .before .before .plan-columns .ensures .1 in
     let q = c .before .before .before .before .before .before .before .plan-columns .ensures .0 in
     let h = le-of-lt (s .pre .0 .1) in
@@ -47,8 +47,8 @@ put-run-spec =
     (tie.spec
     (λ c. search needs)
     (λ c. search needs)
-    cast-subtable-of
-    subtable-of-requires
+    cast-subtable-named
+    subtable-named-requires
     plan-columns-requires
     put-subtable-requires
     (λ c. search needs)

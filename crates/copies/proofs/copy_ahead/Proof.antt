@@ -7,11 +7,11 @@ use denote.Ref.{now}
 use borrow.Author.Needs.{needs}
 use borrow.Author.Tests.{not-false}
 use Rattle.lists.proofs.Fronts.{Agreed, agreed-none, agreed-more, agreed-end}
-use Rattle.subtables.proofs.whole.copy_ahead.Statement.{statement}
-use Rattle.subtables.proofs.whole.copy_ahead.Tie as tie
+use Rattle.copies.proofs.copy_ahead.Statement.{statement}
+use Rattle.copies.proofs.copy_ahead.Tie as tie
 
 abbrev Inv-loop : tie.InvT-loop
-Inv-loop out₀ s n at₀ out at = (n + 15 ≤ length out₀) × (n + 15 ≤ length s) × (at ≤ n + 15) × Agreed s out₀ at out
+Inv-loop out₀ s n at₀ out at = (n + 31 ≤ length out₀) × (n + 31 ≤ length s) × (at ≤ n + 31) × Agreed s out₀ at out
 
 abbrev μ-loop : tie.MeasureT-loop
 μ-loop out₀ s n at₀ out at = n - at
@@ -35,7 +35,7 @@ copy-block-requires : tie.Need-copy-block-requires Inv-loop μ-loop
 copy-block-requires c κs =
     let b = c .before .before .before in
     let s = now (b .before .before .before .before .before .args .s) in
-    (mid-len (b .loop .at) (b .loop .at + 16) (b .loop .out) (omega (arith, b .loop .inv .3 .same)) ∙ omega arith, mid-len (b .loop .at) (b .loop .at + 16) s (omega arith) ∙ omega arith)
+    (mid-len (b .loop .at) (b .loop .at + 32) (b .loop .out) (omega (arith, b .loop .inv .3 .same)) ∙ omega arith, mid-len (b .loop .at) (b .loop .at + 32) s (omega arith) ∙ omega arith)
 
 loop-again : tie.Need-loop-again Inv-loop μ-loop
 loop-again c =

@@ -6,8 +6,8 @@ use denote.Ref.{now}
 use borrow.Author.Needs.{needs}
 use Rattle.lists.proofs.Parts.{all-laid}
 use Rattle.lists.proofs.Copies.{Copied, copied-none, copied-more, copied-all}
-use Rattle.subtables.proofs.whole.copy.Statement.{statement}
-use Rattle.subtables.proofs.whole.copy.Tie as tie
+use Rattle.copies.proofs.copy.Statement.{statement}
+use Rattle.copies.proofs.copy.Tie as tie
 
 abbrev Inv-loop : tie.InvT-loop
 Inv-loop out₀ s i₀ out i = (i ≤ length s) × Copied s out₀ i out
