@@ -78,7 +78,7 @@ fn map(random: &mut Random, glyphs: usize, subtables: usize, rows: usize) -> Vec
     out
 }
 
-/// A table with every map of its header, or with none.
+/// A table with these maps of its header; an empty one is absent, and so are those behind the last.
 fn table(store: &[u8], header_maps: usize, maps: &[Vec<u8>]) -> Vec<u8> {
     let mut out = Vec::new();
     put(&mut out, 0x0001_0000, 4);
@@ -86,7 +86,7 @@ fn table(store: &[u8], header_maps: usize, maps: &[Vec<u8>]) -> Vec<u8> {
     put(&mut out, at, 4);
     at += store.len();
     for map in maps {
-        put(&mut out, at, 4);
+        put(&mut out, if map.is_empty() { 0 } else { at }, 4);
         at += map.len();
     }
     out.resize(8 + 4 * header_maps, 0);
@@ -121,6 +121,10 @@ pub fn made() -> Vec<Request> {
     let far = store(random, 3, 65535, 2, false);
     let maps: Vec<_> = (0..3).map(|_| map(random, 2048, 3, 65535)).collect();
     add("HVAR, 3 maps, 2,048 glyphs, 3 x 65,535 rows", Kind::Hvar, table(&far, 3, &maps), all_glyphs);
+    let plain = store(random, 1, 65535, 2, false);
+    let maps = [Vec::new(), map(random, 65000, 1, 65000), map(random, 65000, 1, 65000)];
+    let spread: Vec<u32> = (0..2048).map(|id| id << 16 | id * 31).collect();
+    add("HVAR, lsb and rsb maps, 2,048 of 65,000", Kind::Hvar, table(&plain, 3, &maps), spread);
     add("P1", Kind::Store, P1_STORE.to_vec(), vec![0, 2]);
     all
 }
