@@ -1,56 +1,56 @@
--- Demand 2 for HVAR and VVAR: each listed glyph reads through each map what it read before.
-use Prim.Native.Nat.{ℕ, _≤_, _<_}
+-- Demand 2 for HVAR and VVAR: each listed glyph reads through each map what it read before. An entry of the list is new × 65,536 + old.
+use Prim.Native.Nat.{ℕ, _/_, _%_, _<_}
 use mathlib.Core.Path.{_≡_}
 use mathlib.Core.Bool.{true, false}
 use mathlib.Core.List.{List}
 use lib.ListN.{length, getD}
 use lib.IntN.{ℤ}
-use Rattle.opentype.specs.Store.{regionsAt}
-use Rattle.opentype.specs.Map.{outerOf, innerOf}
-use Rattle.opentype.specs.Table.{storeAt, mapAt, storeOf}
-use Rattle.rules.specs.Numbers.{written}
-use Rattle.rules.specs.Lists.{runs, outer, inner, newId, oldId}
+use Rattle.opentype.specs.Store.{subtableCount, axisCount}
+use Rattle.opentype.specs.Table.{storeAt, mapAt, storeOf, givesPairs, glyphOuter, glyphInner}
 use Rattle.rules.specs.Open.{badHeader, badMap}
-use Rattle.rules.specs.Numbering.{present, counts, pairOf, keptPairs}
-use Rattle.rules.specs.TableCut.{cutTable}
-use Rattle.demands.specs.Reading.{Bytes, weighted, runAt}
-use Rattle.demands.specs.KeepsStore.{KeptStore}
+use Rattle.demands.specs.Reading.{Readable, weighted}
+use Rattle.demands.specs.Rows.{KeptColumns, KeptRow}
 
--- Glyph `new` of map m in the written table u names row j of subtable k; `old` is the pair that its old id had in t, and row j of
--- subtable k is where that pair went.
-pub record KeptGlyph (maps : ℕ) (t es u : List ℕ) (m e : ℕ) : Type 0 where
-  pub there : present u m ≡ true
+-- map m gives the glyph at place n of the list a row
+pub record Listed (maps : ℕ) (t es : List ℕ) (m n : ℕ) : Type 0 where
+  pub known : m < maps
+  pub gives : givesPairs t m ≡ true
+  pub inside : n < length es
+
+-- the ids of the glyph at place n
+abbrev pub newAt : List ℕ → ℕ → ℕ
+newAt es n = getD es n 0 / 65536
+
+abbrev pub oldAt : List ℕ → ℕ → ℕ
+oldAt es n = getD es n 0 % 65536
+
+-- Through map m the glyph `new` of the written table u reads what the glyph `old` of the table t reads: the map is there and sound, and the
+-- row that it names has, column by column and record by record, the deltas of the row that the old glyph's pair names.
+pub record KeptGlyph (t u : List ℕ) (m old new : ℕ) : Type 0 where
+  pub there : mapAt u m ≡ 0 → ⊥
   pub sound : badMap u (mapAt u m) ≡ false
-  pub outers : runAt (runs (keptPairs maps t es)) (outerOf u (mapAt u m) (newId e)) .outer ≡ outer (pairOf t m (oldId e))
-  pub inners : getD (runAt (runs (keptPairs maps t es)) (outerOf u (mapAt u m) (newId e)) .inners) (innerOf u (mapAt u m) (newId e)) 0
-      ≡ inner (pairOf t m (oldId e))
-  pub outerIn : outerOf u (mapAt u m) (newId e) < length (runs (keptPairs maps t es))
-  pub innerIn : innerOf u (mapAt u m) (newId e) < length (runAt (runs (keptPairs maps t es)) (outerOf u (mapAt u m) (newId e)) .inners)
+  pub inside : glyphOuter u m new < subtableCount (storeOf u)
+  pub from : List ℕ
+  pub columns : KeptColumns (storeOf t) (glyphOuter t m old) (storeOf u) (glyphOuter u m new) from
+  pub row : KeptRow (storeOf t) (glyphOuter t m old) (glyphInner t m old) (storeOf u) (glyphOuter u m new) (glyphInner u m new) from
 
--- The written table u: its header and store can be read, the store keeps the kept rows, each listed glyph finds its row in every map
--- that it had (the advance map always), and no other map is there.
+-- The written table u: its header, its store and the store's region list are there and can be read, regions have as many axes; each
+-- listed glyph reads in every map that gave it a pair what it read; a map that was absent, but for the advance map, is absent.
 pub record KeptTable (maps : ℕ) (t es u : List ℕ) : Type 0 where
   pub header : badHeader maps u ≡ false
-  pub store : KeptStore (storeOf t) (keptPairs maps t es) (storeOf u)
-  pub glyphs : (m n : ℕ) → m < maps → counts t m ≡ true → n < length es → KeptGlyph maps t es u m (getD es n 0)
-  pub others : (m : ℕ) → m < maps → counts t m ≡ false → present u m ≡ false
-
--- For an accepted cut of a table whose store and region list aren't null; maps is 3 for HVAR and 4 for VVAR.
-unfoldable pub KeepsTable : Type 0
-KeepsTable =
-    (maps : ℕ) (t es u : List ℕ) → 3 ≤ maps → maps ≤ 4 → Bytes t
-    → cutTable maps t es ≡ written u
-    → (storeAt t ≡ 0 → ⊥)
-    → (regionsAt (storeOf t) ≡ 0 → ⊥)
-    → KeptTable maps t es u
+  pub store : storeAt u ≡ 0 → ⊥
+  pub readable : Readable (storeOf u)
+  pub axes : axisCount (storeOf u) ≡ axisCount (storeOf t)
+  pub glyphs : (m n : ℕ) → Listed maps t es m n → KeptGlyph t u m (oldAt es n) (newAt es n)
+  pub others : (m : ℕ) → m < maps → givesPairs t m ≡ false → mapAt u m ≡ 0
 
 -- And so no instance of the font moves a width, a bearing or an origin of a listed glyph.
-unfoldable pub KeepsGlyphSums : Type 0
-KeepsGlyphSums =
-    (maps : ℕ) (t es u : List ℕ) → 3 ≤ maps → maps ≤ 4 → Bytes t
-    → cutTable maps t es ≡ written u
-    → (storeAt t ≡ 0 → ⊥)
-    → (regionsAt (storeOf t) ≡ 0 → ⊥)
-    → (weigh : List ℕ → ℤ) (m n : ℕ) → m < maps → counts t m ≡ true → n < length es
-    → weighted weigh (storeOf u) (outer (pairOf u m (newId (getD es n 0)))) (inner (pairOf u m (newId (getD es n 0))))
-    ≡ weighted weigh (storeOf t) (outer (pairOf t m (oldId (getD es n 0)))) (inner (pairOf t m (oldId (getD es n 0))))
+unfoldable pub KeptGlyphSums : ℕ → List ℕ → List ℕ → List ℕ → Type 0
+KeptGlyphSums maps t es u =
+    (weigh : List ℕ → ℤ) (m n : ℕ) → Listed maps t es m n
+    → weighted weigh (storeOf u) (glyphOuter u m (newAt es n)) (glyphInner u m (newAt es n))
+    ≡ weighted weigh (storeOf t) (glyphOuter t m (oldAt es n)) (glyphInner t m (oldAt es n))
+
+-- glyph g in map l and glyph h in map m of a table read one row
+abbrev pub OneRow : List ℕ → ℕ → ℕ → ℕ → ℕ → Type 0
+OneRow t l g m h = (glyphOuter t l g ≡ glyphOuter t m h) × (glyphInner t l g ≡ glyphInner t m h)

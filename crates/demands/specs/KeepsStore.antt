@@ -1,52 +1,56 @@
--- Demand 2 for stores: a cut keeps every kept delta, under the same region.
-use Prim.Native.Nat.{ℕ, _<_}
+-- Demand 2 for stores: a cut keeps every listed row, under the same regions. A pair of the list is outer × 65,536 + inner.
+use Prim.Native.Nat.{ℕ, _/_, _%_, _<_}
 use mathlib.Core.Path.{_≡_}
 use mathlib.Core.Bool.{Bool}
 use mathlib.Core.List.{List}
-use lib.ListN.{length, getD}
-use lib.IntN.{ℤ, pos}
-use Rattle.opentype.specs.Store.{subtableAt, subtableCount, regionsAt}
+use lib.ListN.{length, getD, take}
+use lib.IntN.{ℤ}
+use lib.Dec.{eqb}
+use Rattle.lists.specs.Gather.{keep, rank}
+use Rattle.lists.specs.Search.{any}
+use Rattle.opentype.specs.Store.{subtableAt, subtableCount, axisCount}
 use Rattle.opentype.specs.Subtable.{itemCount}
-use Rattle.rules.specs.Numbers.{written}
-use Rattle.rules.specs.Lists.{Run, runs}
-use Rattle.rules.specs.StoreCut.{cutStore}
-use Rattle.demands.specs.Reading.{Bytes, Readable, deltaIn, columnsIn, recordIn, weighted, runAt}
+use Rattle.demands.specs.Reading.{Readable, weighted}
+use Rattle.demands.specs.Rows.{KeptColumns, KeptRow}
 
--- Subtable k of the written store w holds the kept items of one subtable of the source s, in their order. `old` says for each of
--- its columns which column of the source it comes from: so each new column comes from exactly one old one, and an old column
--- either has one new place, with the same deltas and the same region record, or all kept items read 0 there.
-pub record KeptSubtable (s : List ℕ) (run : Run) (w : List ℕ) (k : ℕ) : Type 0 where
+-- the outer and inner of the pair at place k
+abbrev pub outerAt : List ℕ → ℕ → ℕ
+outerAt pairs k = getD pairs k 0 / 65536
+
+abbrev pub innerAt : List ℕ → ℕ → ℕ
+innerAt pairs k = getD pairs k 0 % 65536
+
+-- some pair of the list has outer o
+unfoldable pub hasOuter : List ℕ → ℕ → Bool
+hasOuter pairs o = any (λ p. eqb o (p / 65536)) pairs
+
+-- how many different outers of the list stand before o: its new number
+unfoldable pub outersBefore : List ℕ → ℕ → ℕ
+outersBefore pairs o = rank (λ p. hasOuter pairs p) o
+
+-- how many pairs of a list have outer o
+unfoldable pub pairsOf : List ℕ → ℕ → ℕ
+pairsOf pairs o = length (keep (λ p. eqb o (p / 65536)) pairs)
+
+-- Of outer o: one row for each of its pairs. The pair at place k has as many rows before its own as earlier pairs have its outer.
+-- All rows share their columns: one that was dropped reads 0 in each of them.
+pub record KeptSubtable (s pairs w : List ℕ) (o : ℕ) : Type 0 where
   pub old : List ℕ
-  pub items : itemCount w (subtableAt w k) ≡ length (run .inners)
-  pub columns : columnsIn w k ≡ length old
-  pub inside : (c : ℕ) → c < length old → getD old c 0 < columnsIn s (run .outer)
-  pub once : (c d : ℕ) → c < length old → d < length old → getD old c 0 ≡ getD old d 0 → c ≡ d
-  pub deltas : (j c : ℕ) → j < length (run .inners) → c < length old
-      → deltaIn w k j c ≡ deltaIn s (run .outer) (getD (run .inners) j 0) (getD old c 0)
-  pub records : (c : ℕ) → c < length old → recordIn w k c ≡ recordIn s (run .outer) (getD old c 0)
-  pub dropped : (b : ℕ) → b < columnsIn s (run .outer) → ((c : ℕ) → c < length old → getD old c 0 ≡ b → ⊥)
-      → (j : ℕ) → j < length (run .inners) → deltaIn s (run .outer) (getD (run .inners) j 0) b ≡ pos 0
+  pub items : itemCount w (subtableAt w (outersBefore pairs o)) ≡ pairsOf pairs o
+  pub columns : KeptColumns s o w (outersBefore pairs o) old
+  pub rows : (k : ℕ) → k < length pairs → outerAt pairs k ≡ o
+      → KeptRow s o (innerAt pairs k) w (outersBefore pairs o) (pairsOf (take k pairs) o) old
 
--- The written store w can be read, and has one subtable for each used one of s, in turn.
+-- The written store w can be read, its regions have as many axes, and it has one subtable for each outer of the list.
 pub record KeptStore (s pairs w : List ℕ) : Type 0 where
   pub readable : Readable w
-  pub count : subtableCount w ≡ length (runs pairs)
-  pub subtables : (k : ℕ) → k < length (runs pairs) → KeptSubtable s (runAt (runs pairs) k) w k
+  pub axes : axisCount w ≡ axisCount s
+  pub count : subtableCount w ≡ outersBefore pairs (subtableCount s)
+  pub subtables : (k : ℕ) → k < length pairs → KeptSubtable s pairs w (outerAt pairs k)
 
--- For an accepted cut of a store whose region list offset isn't 0.
-unfoldable pub KeepsStore : Type 0
-KeepsStore =
-    (s pairs w : List ℕ) (keepEmpty : Bool) → Bytes s
-    → cutStore s pairs keepEmpty ≡ written w
-    → (regionsAt s ≡ 0 → ⊥)
-    → KeptStore s pairs w
-
--- And so, for every weighting of region records by integers, the weighted sum of a kept row is what it was: the j-th kept item of
--- the k-th used subtable is row j of subtable k.
-unfoldable pub KeepsSums : Type 0
-KeepsSums =
-    (s pairs w : List ℕ) (keepEmpty : Bool) → Bytes s
-    → cutStore s pairs keepEmpty ≡ written w
-    → (regionsAt s ≡ 0 → ⊥)
-    → (weigh : List ℕ → ℤ) (k j : ℕ) → k < length (runs pairs) → j < length (runAt (runs pairs) k .inners)
-    → weighted weigh w k j ≡ weighted weigh s (runAt (runs pairs) k .outer) (getD (runAt (runs pairs) k .inners) j 0)
+-- And so, for every weighting of region records by integers, the weighted sum of each listed row is what it was.
+unfoldable pub KeptSums : List ℕ → List ℕ → List ℕ → Type 0
+KeptSums s pairs w =
+    (weigh : List ℕ → ℤ) (k : ℕ) → k < length pairs
+    → weighted weigh w (outersBefore pairs (outerAt pairs k)) (pairsOf (take k pairs) (outerAt pairs k))
+    ≡ weighted weigh s (outerAt pairs k) (innerAt pairs k)

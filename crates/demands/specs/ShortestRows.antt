@@ -1,25 +1,22 @@
 -- Demand 3, rows: no written row could be shorter. A form of a subtable is long or not, with any list of old columns as wide ones and any as
--- narrow ones; if it keeps every kept item's delta in every old column, its row is at least as long as ours.
+-- narrow ones; if it tells every kept row's delta in every old column, its row is at least as long as ours.
 use Prim.Native.Nat.{ℕ, _+_, _*_, _/_, _^_, _≤_, _<_}
 use mathlib.Core.Path.{_≡_}
 use mathlib.Core.Bool.{Bool, true}
-use mathlib.Core.List.{List, map}
+use mathlib.Core.List.{List}
 use lib.ListN.{length}
 use lib.IntN.{ℤ}
 use lib.Dec.{ltb}
 use lib.Signed.{mag}
 use Rattle.lists.specs.Pick.{pick, both}
-use Rattle.lists.specs.Search.{all, member}
+use Rattle.lists.specs.Search.{member}
 use Rattle.cells.specs.Sign.{nil}
-use Rattle.opentype.specs.Store.{subtableAt, regionsAt}
+use Rattle.opentype.specs.Store.{subtableAt}
 use Rattle.opentype.specs.Subtable.{wordSize, restSize, rowLength}
-use Rattle.opentype.specs.Table.{storeAt, storeOf}
-use Rattle.rules.specs.Numbers.{written}
-use Rattle.rules.specs.Lists.{Run, runs}
-use Rattle.rules.specs.Numbering.{keptPairs}
-use Rattle.rules.specs.StoreCut.{cutStore}
-use Rattle.rules.specs.TableCut.{cutTable}
-use Rattle.demands.specs.Reading.{Bytes, deltaIn, columnsIn, runAt}
+use Rattle.opentype.specs.Table.{storeOf, glyphOuter, glyphInner}
+use Rattle.demands.specs.Reading.{deltaIn, columnsIn}
+use Rattle.demands.specs.KeepsStore.{outerAt, innerAt, outersBefore}
+use Rattle.demands.specs.KeepsGlyphs.{Listed, oldAt, newAt}
 
 -- A form of a subtable: long or not, some old columns as wide ones, some as narrow ones.
 pub record Form : Type 0 where
@@ -35,34 +32,29 @@ formLength f = length (f .wide) * wordSize (f .isLong) + length (f .narrow) * re
 unfoldable pub holds : ℕ → ℤ → Bool
 holds size z = ltb (mag z) (256 ^ size / 2)
 
--- all deltas are 0; or the column stands among the wide ones, and they fit there; or among the narrow ones, and they fit there
-unfoldable pub carries : Form → ℕ → List ℤ → Bool
-carries f c zs =
-    pick (all (λ z. nil z) zs) true
-    (pick (both (member c (f .wide)) (all (λ z. holds (wordSize (f .isLong)) z) zs)) true
-    (both (member c (f .narrow)) (all (λ z. holds (restSize (f .isLong)) z) zs)))
+-- the form tells a delta in old column c: it is 0; or the column stands among the wide ones, and it fits there; or among the narrow ones, and it fits there
+unfoldable pub tells : Form → ℕ → ℤ → Bool
+tells f c z =
+    pick (nil z) true
+    (pick (both (member c (f .wide)) (holds (wordSize (f .isLong)) z)) true
+    (both (member c (f .narrow)) (holds (restSize (f .isLong)) z)))
 
--- the form can tell every kept item's delta in every old column
-pub record Reads (s : List ℕ) (run : Run) (f : Form) : Type 0 where
-  pub every : (c : ℕ) → c < columnsIn s (run .outer)
-      → carries f c (map (λ i. deltaIn s (run .outer) i c) (run .inners)) ≡ true
+-- Of a store: for the outer of each listed pair, a form that tells the deltas of all listed rows of that outer isn't shorter.
+unfoldable pub ShortestRows : List ℕ → List ℕ → List ℕ → Type 0
+ShortestRows s pairs w =
+    (k : ℕ) → k < length pairs
+    → let o = outerAt pairs k in
+    (f : Form)
+    → ((j c : ℕ) → j < length pairs → outerAt pairs j ≡ o → c < columnsIn s o → tells f c (deltaIn s o (innerAt pairs j) c) ≡ true)
+    → rowLength w (subtableAt w (outersBefore pairs o)) ≤ formLength f
 
--- For each written subtable, any form that reads every kept item's delta in every old column has a row at least as long as ours:
--- in a store that was cut by itself,
-unfoldable pub ShortestRows : Type 0
-ShortestRows =
-    (s pairs w : List ℕ) (keepEmpty : Bool) → Bytes s
-    → cutStore s pairs keepEmpty ≡ written w
-    → (regionsAt s ≡ 0 → ⊥)
-    → (k : ℕ) → k < length (runs pairs) → (f : Form) → Reads s (runAt (runs pairs) k) f
-    → rowLength w (subtableAt w k) ≤ formLength f
-
--- and in the store of a table; maps is 3 for HVAR and 4 for VVAR.
-unfoldable pub ShortestTableRows : Type 0
-ShortestTableRows =
-    (maps : ℕ) (t es u : List ℕ) → 3 ≤ maps → maps ≤ 4 → Bytes t
-    → cutTable maps t es ≡ written u
-    → (storeAt t ≡ 0 → ⊥)
-    → (regionsAt (storeOf t) ≡ 0 → ⊥)
-    → (k : ℕ) → k < length (runs (keptPairs maps t es)) → (f : Form) → Reads (storeOf t) (runAt (runs (keptPairs maps t es)) k) f
-    → rowLength (storeOf u) (subtableAt (storeOf u) k) ≤ formLength f
+-- Of a table: for the outer that a listed glyph reads in a map, a form that tells the deltas of all rows that listed glyphs read there, in any
+-- map, isn't shorter.
+unfoldable pub ShortestGlyphRows : ℕ → List ℕ → List ℕ → List ℕ → Type 0
+ShortestGlyphRows maps t es u =
+    (m n : ℕ) → Listed maps t es m n
+    → let o = glyphOuter t m (oldAt es n) in let s = storeOf t in let w = storeOf u in
+    (f : Form)
+    → ((l j c : ℕ) → Listed maps t es l j → glyphOuter t l (oldAt es j) ≡ o → c < columnsIn s o
+    → tells f c (deltaIn s o (glyphInner t l (oldAt es j)) c) ≡ true)
+    → rowLength w (subtableAt w (glyphOuter u m (newAt es n))) ≤ formLength f

@@ -11,6 +11,9 @@ pub mod Lengths
 pub mod Usable
 pub mod Bits
 pub mod Kept
+pub mod Once
+pub mod Wrote
+pub mod Named
 pub mod Glyphs
 pub mod Entries
 pub mod GlyphPairs

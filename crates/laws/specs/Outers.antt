@@ -38,6 +38,10 @@ not-fall-climbs p (q ∷ ps) h =
     let n = neither (ltb (outer q) (outer p)) (outersFall (q ∷ ps)) h in
     (le-of-eq refl, (ltb-false (outer q) (outer p) (n .0), not-fall-climbs q ps (n .1) .1))
 
+pub accepted-climbs : (ps : List ℕ) → outersFall ps ≡ false → Climbs 0 ps
+accepted-climbs [] h = tt
+accepted-climbs (p ∷ ps) h = (omega arith, not-fall-climbs p ps h .1)
+
 abbrev pub outersOf : List Run → List ℕ
 outersOf rs = map (λ run. run .outer) rs
 

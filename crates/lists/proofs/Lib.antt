@@ -20,6 +20,7 @@ pub mod Selected
 pub mod Each
 pub mod Left
 pub mod Sifted
+pub mod Sieves
 pub mod Found
 pub mod Chains
 pub mod Tabs

@@ -15,7 +15,7 @@ use Rattle.lists.proofs.Choices.{decided, both-of}
 use Rattle.lists.proofs.Each.{both-hold}
 use Rattle.lists.proofs.Stands.{Stands}
 use Rattle.lists.proofs.Gathered.{getD-tab, flat-tab-short}
-use Rattle.opentype.specs.Table.{headerLength, mapAt, storeOf}
+use Rattle.opentype.specs.Table.{headerLength, storeAt, mapAt, storeOf}
 use Rattle.opentype.specs.Map.{outerOf, innerOf}
 use Rattle.rules.specs.Lists.{Run, runs, newId, oldId}
 use Rattle.rules.specs.Open.{badHeader}
@@ -23,8 +23,8 @@ use Rattle.rules.specs.Numbering.{present, counts, pairOf, keptPairs, newOuter,
 use Rattle.rules.specs.Maps.{isWritten, mapPlan, plannedMap, mapBytes}
 use Rattle.demands.specs.Reading.{Bytes}
 use Rattle.laws.specs.Packed.{Packed, all-kept, packed, map-length}
-use Rattle.remapped.proofs.LaidMap.{LaidMap, laid-map, map-glyph}
-use Rattle.remapped.proofs.LaidTable.{LaidTable, laid-table}
+use Rattle.laid.proofs.Map.{LaidMap, laid-map, map-glyph}
+use Rattle.laid.proofs.Table.{LaidTable, laid-table}
 use Rattle.remapped.proofs.Cut.{Cut}
 use Rattle.remapped.proofs.Short.{room-left}
 
@@ -35,9 +35,10 @@ pub record ReadMap (t : List ℕ) (rs : List Run) (es u : List ℕ) (m : ℕ) : 
   pub outers : (n : ℕ) → n < length es → outerOf u (mapAt u m) (newId (getD es n 0)) ≡ newOuter rs (pairOf t m (oldId (getD es n 0)))
   pub inners : (n : ℕ) → n < length es → innerOf u (mapAt u m) (newId (getD es n 0)) ≡ newInner rs (pairOf t m (oldId (getD es n 0)))
 
-pub record ReadTable (maps : ℕ) (t es u store : List ℕ) : Type 0 where
+pub record ReadTable (maps : ℕ) (t es u st : List ℕ) : Type 0 where
   pub header : badHeader maps u ≡ false
-  pub stands : Stands (storeOf u) 0 store
+  pub store : storeAt u ≡ 0 → ⊥
+  pub stands : Stands (storeOf u) 0 st
   pub map : (m : ℕ) → m < maps → counts t m ≡ true → 0 < length es → ReadMap t (runs (keptPairs maps t es)) es u m
   pub absent : (m : ℕ) → m < maps → counts t m ≡ false → present u m ≡ false
 
@@ -98,6 +99,7 @@ module _ (maps : ℕ) (t es u : List ℕ) (few : 0 < maps) (most : maps ≤ 4) (
       let laid = table in
       record {
         header = laid .header;
+        store = laid .there;
         stands = laid .store;
         map = map-read;
         absent = λ m h c. laid .absent m h (ap (λ (xs : List ℕ). length xs) (part m h) ∙ rw c);

@@ -17,7 +17,8 @@ use Rattle.rules.specs.Lists.{Run, runs, outersFall, twice, badPairs, mostPairs
 use Rattle.rules.specs.Open.{badStore, badRegions, absentSubtable, badSubtable}
 use Rattle.rules.specs.StoreCut.{someDelta, badRegionIndex, middleWidth, storeBytes, storeWritten, subtablesOr, checkedCut, cutOpened, cutStore}
 use Rattle.laws.specs.Passed.{passed, same-bytes}
-use Rattle.demands.specs.Reading.{Bytes, runAt}
+use Rattle.laws.specs.Runs.{runAt}
+use Rattle.demands.specs.Reading.{Bytes}
 
 -- The cut of the store s to the kept pairs wrote st.
 pub record Accepted (s pairs st : List ℕ) : Type 0 where

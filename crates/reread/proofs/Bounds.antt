@@ -16,14 +16,14 @@ use Rattle.rules.specs.Regions.{usedRegions, regionListBytes}
 use Rattle.rules.specs.Rewrite.{subtableBytes}
 use Rattle.rules.specs.StoreCut.{storeBytes}
 use Rattle.laws.specs.Inside.{store-inside, regions-inside, subtable-inside}
-use Rattle.demands.specs.Reading.{runAt}
+use Rattle.laws.specs.Runs.{runAt}
 use Rattle.cells.proofs.Cells.{be-lt}
 use Rattle.reread.proofs.Accepted.{Accepted}
 use Rattle.reread.proofs.Open.{in-array}
 use Rattle.reread.proofs.Columns.{order-few}
 use Rattle.reread.proofs.Runs.{few-runs, runs-items, piece-short, pieces-short}
-use Rattle.reread.proofs.Laid.{length-layStore}
-use Rattle.reread.proofs.RegionList.{length-regionList}
+use Rattle.laid.proofs.Store.{length-layStore}
+use Rattle.laid.proofs.Regions.{length-regionList}
 use Rattle.laws.specs.Lengths.{planLength, length-planned}
 use Rattle.reread.proofs.Used.{few-used, used-record}
 

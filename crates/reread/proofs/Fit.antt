@@ -21,7 +21,7 @@ use Rattle.rules.specs.declared.Class.the-variants.{Dropped, Narrow, Wide}
 use Rattle.rules.specs.Columns.{planOf, planWith, keptDeltas, keepsLong, classOf, isWide, isNarrow, narrowLimit}
 use Rattle.rules.specs.StoreCut.{middle}
 use Rattle.laws.specs.Long.{sign-small}
-use Rattle.reread.proofs.Subtable.{Fits}
+use Rattle.laid.proofs.Subtable.{Fits}
 
 -- a delta lies in the range of the subtable's larger cells, whatever the bytes
 delta-small : (s : List ℕ) (at i c : ℕ) → mag (delta s at i c) < 256 ^ wordSize (long s at) / 2

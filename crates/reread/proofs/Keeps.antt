@@ -1,4 +1,4 @@
--- Demand 2 for stores, proved: a cut keeps every kept delta, under the same region.
+-- What an accepted cut of a store wrote, read again: the kept items of each run, under the same regions.
 use Prim.Native.Nat.{ℕ, _+_, _*_, _<_, _≤_}
 use mathlib.Core.Path.{_≡_, sym, ap, _∙_}
 use mathlib.Core.Bool.{true, false≢true}
@@ -10,22 +10,24 @@ use lib.IntN.{ℤ, pos, negsuc}
 use borrow.Author.Tests.{eqb-true}
 use Rattle.lists.specs.Search.{all}
 use Rattle.lists.proofs.Each.{all-at}
-use Rattle.lists.proofs.Stands.{Stands, stands-all}
+use Rattle.lists.proofs.Stands.{Stands}
 use Rattle.cells.specs.Sign.{nil}
-use Rattle.opentype.specs.Store.{subtableAt, subtableCount, regionRecord}
-use Rattle.opentype.specs.Subtable.{delta}
-use Rattle.rules.specs.Lists.{runs}
+use Rattle.opentype.specs.Store.{subtableAt, subtableCount, axisCount, regionRecord}
+use Rattle.opentype.specs.Subtable.{itemCount, delta}
+use Rattle.rules.specs.Lists.{Run, runs}
 use Rattle.rules.specs.Columns.{order, keptDeltas}
-use Rattle.demands.specs.Reading.{Readable, runAt}
-use Rattle.demands.specs.KeepsStore.{KeptSubtable, KeptStore, KeepsStore, KeepsSums}
-use Rattle.reread.proofs.Accepted.{Accepted, store-accepted}
-use Rattle.reread.proofs.Open.{good-store, good-regions, good-offset, good-subtable}
+use Rattle.laws.specs.Runs.{runAt}
+use Rattle.demands.specs.Reading.{Readable}
+use Rattle.demands.specs.Rows.{KeptColumns, KeptRow}
+use Rattle.demands.specs.KeepsStore.{hasOuter}
+use Rattle.reread.proofs.Accepted.{Accepted}
+use Rattle.reread.proofs.Open.{in-array, good-store, good-regions, good-offset, good-subtable}
 use Rattle.reread.proofs.Columns.{order-few, order-inside, order-once, order-out}
 use Rattle.reread.proofs.Fit.{kept-at, length-kept}
 use Rattle.reread.proofs.Used.{column-region}
+use Rattle.reread.proofs.Places.{has-run}
 use Rattle.reread.proofs.Bounds.{runs-256, columns-4096, used-4096}
 use Rattle.reread.proofs.Written.{placeOf, planFor, parts-count, store-again, regions-again, subtable-again}
-use Rattle.reread.proofs.Follows.{store-sums}
 
 is-zero : (z : ℤ) → nil z ≡ true → z ≡ pos 0
 is-zero (pos n) e = ap pos (eqb-true n 0 e)
@@ -36,25 +38,55 @@ zero-at : (s : List ℕ) (at : ℕ) (is : List ℕ) (b j : ℕ) → all (λ z. n
 zero-at s at is b j e h =
     sym (kept-at s at is b j h) ∙ is-zero _ (all-at (λ z. nil z) (pos 0) (keptDeltas s at is b) j e (rw (length-kept s at is b) h))
 
+-- Subtable k of the written store w holds the kept items of a run, in their order.
+pub record RunKept (s : List ℕ) (run : Run) (w : List ℕ) (k : ℕ) : Type 0 where
+  pub items : itemCount w (subtableAt w k) ≡ length (run .inners)
+  pub columns : KeptColumns s (run .outer) w k (order (planFor s run))
+  pub rows : (j : ℕ) → j < length (run .inners) → KeptRow s (run .outer) (getD (run .inners) j 0) w k j (order (planFor s run))
+
+-- The written store w can be read, and has one subtable for each run of the kept pairs, in turn.
+pub record RunsKept (s pairs w : List ℕ) : Type 0 where
+  pub readable : Readable w
+  pub axes : axisCount w ≡ axisCount s
+  pub count : subtableCount w ≡ length (runs pairs)
+  pub each : (k : ℕ) → k < length (runs pairs) → RunKept s (runAt (runs pairs) k) w k
+
+-- the same row, or the same columns, by other numbers
+pub row-as : {s w old : List ℕ} {o i o′ i′ q j q′ j′ : ℕ} → q ≡ o → j ≡ i → q′ ≡ o′ → j′ ≡ i′ → KeptRow s o i w o′ i′ old → KeptRow s q j w q′ j′ old
+row-as a b c d row = rw (a, b, c, d) row
+
+pub columns-as : {s w old : List ℕ} {o o′ q q′ : ℕ} → q ≡ o → q′ ≡ o′ → KeptColumns s o w o′ old → KeptColumns s q w q′ old
+columns-as a c columns = rw (a, c) columns
+
+-- the outers of the list are in the source's array
+pub outers-inside : {s pairs st : List ℕ} → Accepted s pairs st → (o : ℕ) → hasOuter pairs o ≡ true → o < subtableCount s
+outers-inside {s} {pairs} ok o h =
+    let r = has-run pairs o h in
+    rw (r .2) at (in-array s (runAt (runs pairs) (r .0) .outer) (ok .there (r .0) (r .1)))
+
 module _ {s pairs st w : List ℕ} (ok : Accepted s pairs st) (laid : Stands w 0 st) where
-  kept-subtable : (k : ℕ) → k < length (runs pairs) → KeptSubtable s (runAt (runs pairs) k) w k
-  kept-subtable k h =
+  kept-run : (k : ℕ) → k < length (runs pairs) → RunKept s (runAt (runs pairs) k) w k
+  kept-run k h =
       let rs = runs pairs in
       let run = runAt rs k in
       let at = placeOf s run in
       let is = run .inners in
       let new = subtable-again ok laid k h in
       record {
-        old = order (planFor s run);
         items = new .items;
-        columns = new .columns;
-        inside = order-inside s at is;
-        once = order-once s at is;
-        deltas = new .deltas;
-        records = λ c l.
-            let r = column-region s rs k c (ok .indexes) h l in
-            ap (λ (n : ℕ). regionRecord w n) (new .indexes c l) ∙ (regions-again ok laid .same _ (r .0) ∙ ap (λ (n : ℕ). regionRecord s n) (r .1));
-        dropped = λ b l out j m. zero-at s at is b j (order-out s at is b l out) m;
+        columns = record {
+          columns = new .columns;
+          inside = order-inside s at is;
+          once = order-once s at is;
+          records = λ c l.
+              let r = column-region s rs k c (ok .indexes) h l in
+              ap (λ (n : ℕ). regionRecord w n) (new .indexes c l) ∙ (regions-again ok laid .same _ (r .0) ∙ ap (λ (n : ℕ). regionRecord s n) (r .1));
+        };
+        rows = λ j m. record {
+          there = rw (new .items) m;
+          deltas = λ c l. new .deltas j c m l;
+          dropped = λ b l out. zero-at s at is b j (order-out s at is b l out) m;
+        };
       }
 
   count : subtableCount w ≡ length (runs pairs)
@@ -69,6 +101,7 @@ module _ {s pairs st w : List ℕ} (ok : Accepted s pairs st) (laid : Stands w 0
       let run : (k : ℕ) → k < subtableCount w → k < length rs = λ k h. rw count at h in
       record {
         header = good-store w (store .format) (rw count (runs-256 ok)) (omega arith) array;
+        list = store .list;
         regions = good-regions w (omega (arith, regions .inside)) (rw (regions .count) (used-4096 ok)) (regions .inside);
         there = λ k h. good-offset w k h (λ e. omega (arith, store .behind k (rw (parts-count s rs) (run k h))));
         whole = λ k h.
@@ -84,12 +117,5 @@ module _ {s pairs st w : List ℕ} (ok : Accepted s pairs st) (laid : Stands w 0
       }
 
   -- w may be longer than the store: a table's store runs to the table's end
-  pub kept-laid : KeptStore s pairs w
-  kept-laid = record { readable = readable; count = count; subtables = kept-subtable }
-
-pub keeps-store : KeepsStore
-unfolding KeepsStore
-keeps-store s pairs w keepEmpty bytes cut here = kept-laid (store-accepted s pairs w keepEmpty bytes cut here) (stands-all w)
-
-pub keeps-sums : KeepsSums
-keeps-sums = store-sums keeps-store
+  pub runs-kept : RunsKept s pairs w
+  runs-kept = record { readable = readable; axes = regions-again ok laid .axes; count = count; each = kept-run }

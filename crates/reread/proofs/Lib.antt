@@ -1,15 +1,11 @@
-pub mod Cells
 pub mod Columns
-pub mod Sums
-pub mod Follows
 pub mod Accepted
 pub mod Open
-pub mod Laid
-pub mod RegionList
-pub mod Subtable
 pub mod Fit
 pub mod Runs
+pub mod Places
 pub mod Used
 pub mod Bounds
 pub mod Written
 pub mod Keeps
+pub mod Calls

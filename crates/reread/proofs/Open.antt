@@ -13,7 +13,7 @@ use Rattle.opentype.specs.Subtable.{itemCount, wordCount, columnCount, rowLengt
 use Rattle.rules.specs.Lists.{Run}
 use Rattle.rules.specs.Open.{badStore, badRegions, absentSubtable, badSubtable, mostSubtables, mostRegions, mostColumns}
 use Rattle.rules.specs.StoreCut.{someColumn}
-use Rattle.demands.specs.Reading.{runAt}
+use Rattle.laws.specs.Runs.{runAt}
 
 pub in-array : (s : List ℕ) (o : ℕ) → absentSubtable s o ≡ false → o < subtableCount s
 unfolding absentSubtable

@@ -15,7 +15,7 @@ use Rattle.lists.proofs.Places.{at-place}
 use Rattle.lists.proofs.Ascending.{Rises, rises-from, rises-length}
 use Rattle.rules.specs.Lists.{Run, outer, inner, outersFall, joinRun, runs}
 use Rattle.laws.specs.Outers.{outersOf, rises-runs, not-fall-climbs}
-use Rattle.demands.specs.Reading.{runAt}
+use Rattle.laws.specs.Runs.{runAt}
 
 runs-rise : (ps : List ℕ) → outersFall ps ≡ false → Rises 0 (outersOf (runs ps))
 runs-rise [] e = rises-runs 0 [] tt
@@ -51,6 +51,27 @@ pub runs-items : (ps : List ℕ) → flat (λ run. run .inners) (runs ps) ≡ ma
 unfolding runs flat
 runs-items [] = refl
 runs-items (p ∷ ps) = join-items (outer p) (inner p) (runs ps) ∙ ap (λ (xs : List ℕ). inner p ∷ xs) (runs-items ps)
+
+-- no run is empty
+join-some : (o i : ℕ) (rs : List Run) → ((k : ℕ) → k < length rs → 0 < length (runAt rs k .inners))
+    → (k : ℕ) → k < length (joinRun o i rs) → 0 < length (runAt (joinRun o i rs) k .inners)
+unfolding joinRun
+join-some o i [] h zero l = omega arith
+join-some o i [] h (suc k) l = absurd (omega arith)
+join-some o i (run ∷ rs) h k l = by (eqb o (run .outer)) k l
+  where
+    by : (b : Bool) (k : ℕ)
+        → let joined : List Run = pick b (record { outer = o; inners = i ∷ run .inners } ∷ rs) (record { outer = o; inners = i ∷ [] } ∷ run ∷ rs) in
+        k < length joined → 0 < length (runAt joined k .inners)
+    by true zero l = omega arith
+    by true (suc k) l = h (suc k) (omega arith)
+    by false zero l = omega arith
+    by false (suc k) l = h k (omega arith)
+
+pub runs-some : (ps : List ℕ) (k : ℕ) → k < length (runs ps) → 0 < length (runAt (runs ps) k .inners)
+unfolding runs
+runs-some [] k l = absurd (not-suc-le-zero l)
+runs-some (p ∷ ps) k l = join-some (outer p) (inner p) (runs ps) (runs-some ps) k l
 
 -- a piece is no longer than all of them
 pub piece-short : {A : Type 0} (f : A → List ℕ) (d : A) (xs : List A) (k : ℕ) → k < length xs → length (f (getD xs k d)) ≤ length (flat f xs)

@@ -17,10 +17,10 @@ use Rattle.rules.specs.Lists.{Run}
 use Rattle.rules.specs.Columns.{live, planOf, order}
 use Rattle.rules.specs.Regions.{usesRegion, isUsed, usedRegions, newRegion}
 use Rattle.rules.specs.StoreCut.{badRegionIndex}
-use Rattle.demands.specs.Reading.{runAt}
+use Rattle.laws.specs.Runs.{runAt}
 use Rattle.reread.proofs.Open.{no-column}
 use Rattle.reread.proofs.Columns.{order-inside, order-live}
-use Rattle.reread.proofs.RegionList.{length-record}
+use Rattle.laid.proofs.Regions.{length-record}
 
 pub few-used : (s : List ℕ) (rs : List Run) → length (usedRegions s rs) ≤ regionCount s
 unfolding usedRegions

@@ -16,14 +16,14 @@ use Rattle.rules.specs.Regions.{usedRegions, regionListBytes}
 use Rattle.rules.specs.Rewrite.{subtableBytes}
 use Rattle.rules.specs.StoreCut.{storeBytes, middleWidth}
 use Rattle.laws.specs.Inside.{regions-inside}
-use Rattle.demands.specs.Reading.{runAt}
+use Rattle.laws.specs.Runs.{runAt}
 use Rattle.reread.proofs.Accepted.{Accepted}
 use Rattle.reread.proofs.Open.{no-column}
 use Rattle.reread.proofs.Columns.{order-few}
-use Rattle.reread.proofs.Laid.{LaidStore, laid-store}
-use Rattle.reread.proofs.RegionList.{LaidRegions, laid-regions}
+use Rattle.laid.proofs.Store.{LaidStore, laid-store}
+use Rattle.laid.proofs.Regions.{LaidRegions, laid-regions}
 use Rattle.laws.specs.Lengths.{planLength}
-use Rattle.reread.proofs.Subtable.{LaidSubtable, laid-subtable}
+use Rattle.laid.proofs.Subtable.{LaidSubtable, laid-subtable}
 use Rattle.reread.proofs.Fit.{plan-fits}
 use Rattle.reread.proofs.Used.{used-record, column-region}
 use Rattle.reread.proofs.Bounds.{axes-small, runs-256, items-8192, columns-4096, used-4096, store-short}

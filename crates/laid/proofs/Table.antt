@@ -21,7 +21,7 @@ use Rattle.opentype.specs.Table.{majorVersion, storeAt, mapAt, headerLength, st
 use Rattle.rules.specs.Open.{badHeader}
 use Rattle.rules.specs.Numbering.{present}
 use Rattle.rules.specs.TableCut.{mapOffsets, layTable}
-use Rattle.reread.proofs.Cells.{be-back}
+use Rattle.laid.proofs.Cells.{be-back}
 
 length-mapOffsets : (at : ℕ) (parts : List (List ℕ)) → length (mapOffsets at parts) ≡ 4 * length parts
 unfolding mapOffsets
@@ -84,6 +84,7 @@ be-within {u} {xs} n k s h =
 
 pub record LaidTable (maps : ℕ) (st : List ℕ) (parts : List (List ℕ)) (u : List ℕ) : Type 0 where
   pub header : badHeader maps u ≡ false
+  pub there : storeAt u ≡ 0 → ⊥
   pub store : Stands (storeOf u) 0 st
   pub map : (m : ℕ) → m < maps → 0 < length (getD parts m []) → (present u m ≡ true) × Stands u (mapAt u m) (getD parts m [])
   pub absent : (m : ℕ) → m < maps → length (getD parts m []) ≡ 0 → present u m ≡ false
@@ -119,6 +120,7 @@ laid-table maps t st parts good n small =
     record {
       header = neither-of (ltb (length u) head) (differ (be 2 u 0) 1) (le-ltb (length u) head (omega (arith, s2 .inside, atStore)))
           (ap (λ (k : ℕ). differ k 1) major ∙ checks .1);
+      there = λ e. omega (arith, there, e);
       store = rw there (stands-drop (stands-at atStore (stands-right (version ++ place ++ array) st s1)));
       map = λ m h l. let p = part-there (part m h) small l in (differ-yes (be 4 u (8 + 4 * m)) 0 (λ e. omega (arith, p .1)), p .0);
       absent = λ m h l. differ-no (be 4 u (8 + 4 * m)) 0 (part-absent (part m h) l);

@@ -10,7 +10,7 @@ use Rattle.lists.proofs.Stands.{Stands, stands-at, stands-left, stands-right}
 use Rattle.cells.specs.Be.{be, beBytes}
 use Rattle.opentype.specs.Store.{storeFormat, regionsAt, subtableCount, subtableAt}
 use Rattle.rules.specs.StoreCut.{offsets, layStore}
-use Rattle.reread.proofs.Cells.{length-beBytes, be-back}
+use Rattle.laid.proofs.Cells.{length-beBytes, be-back}
 
 pub length-offsets : (at : ℕ) (parts : List (List ℕ)) → length (offsets at parts) ≡ 4 * length parts
 unfolding offsets
@@ -70,6 +70,7 @@ pub record LaidStore (w regionList : List ℕ) (parts : List (List ℕ)) : Type 
   pub format : storeFormat w ≡ 1
   pub count : subtableCount w ≡ length parts
   pub array : 8 + 4 * length parts ≤ length w
+  pub list : regionsAt w ≡ 0 → ⊥
   pub regions : Stands w (regionsAt w) regionList
   pub subtable : (k : ℕ) → k < length parts → Stands w (subtableAt w k) (getD parts k [])
   pub behind : (k : ℕ) → k < length parts → 8 ≤ subtableAt w k
@@ -102,6 +103,7 @@ laid-store {w} regionList parts few small s =
       format = be-back 2 1 (omega arith) (stands-left format regions (stands-left (format ++ regions) count s3));
       count = be-back 2 n few (stands-at (simp (length-append, length-beBytes)) (stands-right (format ++ regions) count s3));
       array = omega (arith, s2 .inside, at5);
+      list = λ e. omega (arith, list, e);
       regions = stands-at (sym list) (stands-at at5 (stands-right (format ++ regions ++ count ++ array) regionList s1));
       subtable = λ k h. part-read (offset k h) (omega arith) .0;
       behind = λ k h. let p = part-read (offset k h) (omega arith) .1 in omega arith;

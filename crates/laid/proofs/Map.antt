@@ -18,7 +18,7 @@ use Rattle.rules.specs.Lists.{Run, newId, oldId}
 use Rattle.rules.specs.Open.{badMap}
 use Rattle.rules.specs.Numbering.{pairOf, newOuter, newInner}
 use Rattle.rules.specs.Maps.{MapPlan, mapPlan, entrySize, newEntry, entryAt, plannedMap}
-use Rattle.reread.proofs.Cells.{be-stands, be-back}
+use Rattle.laid.proofs.Cells.{be-stands, be-back}
 use Rattle.laws.specs.Glyphs.{Glyphs}
 use Rattle.laws.specs.Entries.{entry-found}
 use Rattle.laws.specs.Packed.{Packed, map-length}

@@ -11,7 +11,7 @@ use Rattle.lists.proofs.Stands.{Stands, stands-at, stands-left, stands-right, s
 use Rattle.cells.specs.Be.{beBytes}
 use Rattle.opentype.specs.Store.{regionsAt, axisCount, regionCount, recordLength, regionRecord}
 use Rattle.rules.specs.Regions.{regionListBytes}
-use Rattle.reread.proofs.Cells.{length-beBytes, be-back}
+use Rattle.laid.proofs.Cells.{length-beBytes, be-back}
 
 -- a region that is there has all its bytes
 pub length-record : (s : List ℕ) (r : ℕ) → regionsAt s + 4 + regionCount s * recordLength s ≤ length s → r < regionCount s

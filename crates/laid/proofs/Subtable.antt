@@ -24,7 +24,7 @@ use Rattle.rules.specs.Columns.{Plan, order}
 use Rattle.rules.specs.Regions.{newRegion}
 use Rattle.rules.specs.Rewrite.{rowBytes, newWordField, plannedBytes}
 use Rattle.laws.specs.Lengths.{planLength, length-cells, length-row}
-use Rattle.reread.proofs.Cells.{length-beBytes, be-back, signed-back}
+use Rattle.laid.proofs.Cells.{length-beBytes, be-back, signed-back}
 
 -- The deltas of item i fit the cells that a plan gives them.
 pub record Fits (s : List ℕ) (at : ℕ) (p : Plan) (i : ℕ) : Type 0 where
