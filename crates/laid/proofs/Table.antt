@@ -13,8 +13,7 @@ use Rattle.lists.specs.Pick.{pick, differ, differ-yes, differ-no}
 use Rattle.lists.specs.Gather.{flat}
 use Rattle.lists.proofs.Each.{neither}
 use Rattle.lists.proofs.Choices.{neither-of}
-use Rattle.lists.proofs.Stands.{Stands, stands-at, stands-left, stands-right, stands-all}
-use Rattle.lists.proofs.Gathered.{stands-drop}
+use Rattle.lists.proofs.Stands.{Stands, stands-at, stands-left, stands-right, stands-all, stands-drop}
 use Rattle.cells.specs.Be.{be, beBytes}
 use Rattle.cells.proofs.Cells.{length-beBytes, be-ext, be-take}
 use Rattle.opentype.specs.Table.{majorVersion, storeAt, mapAt, headerLength, storeOf}

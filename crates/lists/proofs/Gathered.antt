@@ -1,14 +1,13 @@
--- Where the pieces of a gathered list stand, and the values of a tabulated one.
-use mathlib.Core.Path.{_≡_, ap, _∙_}
+-- Where the pieces of a gathered list stand, and how long tabulated ones are.
+use mathlib.Core.Path.{_≡_, ap}
 use mathlib.Core.List.{List, [], _∷_}
 use mathlib.Core.Logic.{⊎-elim}
 use Prim.Native.Nat.{ℕ, zero, suc, _+_, _*_, _<_, _≤_}
-use native.Mathlib.Nat.{zero-add, not-suc-le-zero, eq-or-lt-of-le, le-of-suc-le-suc, suc-mul}
+use native.Mathlib.Nat.{not-suc-le-zero, eq-or-lt-of-le, le-of-suc-le-suc, suc-mul}
 use native.Mathlib.Omega.{arith}
-use lib.ListN.{length, getD, drop, length-append, length-drop, List·getD-append}
-use lib.Seq.{getD-at, getD-drop}
+use lib.ListN.{length, length-append}
 use Rattle.lists.specs.Gather.{gather, flat, tab}
-use Rattle.lists.proofs.Pieces.{gather-length, flat-append, length-tab}
+use Rattle.lists.proofs.Pieces.{gather-length, flat-append}
 use Rattle.lists.proofs.Stands.{Stands, stands-at, stands-left, stands-right}
 
 -- pieces of one length
@@ -19,20 +18,6 @@ stands-gather f size h k zero l s = absurd (not-suc-le-zero l)
 stands-gather {at = at} f size h k (suc n) l s =
     ⊎-elim (λ e. rw e (stands-at (ap (λ (x : ℕ). at + x) (gather-length f size h n)) (stands-right (gather f n) (f n) s)))
     (λ g. stands-gather f size h k n g (stands-left (gather f n) (f n) s))
-    (eq-or-lt-of-le (le-of-suc-le-suc l))
-
--- what stands at a place stands at the start of the rest
-pub stands-drop : {w : List ℕ} {at : ℕ} {xs : List ℕ} → Stands w at xs → Stands (drop at w) 0 xs
-stands-drop {w} {at} {xs} s =
-    let n = length-drop at w in
-    record { inside = omega (arith, s .inside); each = λ k h. rw zero-add (getD-drop at w k 0 ∙ s .each k h) }
-
-pub getD-tab : {A : Type 0} (f : ℕ → A) (d : A) (k n : ℕ) → k < n → getD (tab f n) k d ≡ f k
-unfolding tab
-getD-tab f d k zero l = absurd (not-suc-le-zero l)
-getD-tab f d k (suc n) l =
-    ⊎-elim (λ e. rw e (getD-at (tab f n) (f n) [] d n (length-tab f n)))
-    (λ g. List·getD-append (tab f n) (f n ∷ []) d k (rw (length-tab f n) g) ∙ getD-tab f d k n g)
     (eq-or-lt-of-le (le-of-suc-le-suc l))
 
 -- tabulated pieces of at most so many elements

@@ -14,7 +14,8 @@ use Rattle.lists.proofs.Pieces.{length-tab}
 use Rattle.lists.proofs.Choices.{decided, both-of}
 use Rattle.lists.proofs.Each.{both-hold}
 use Rattle.lists.proofs.Stands.{Stands}
-use Rattle.lists.proofs.Gathered.{getD-tab, flat-tab-short}
+use Rattle.lists.proofs.Gathered.{flat-tab-short}
+use Rattle.lists.proofs.Tabs.{getD-tab}
 use Rattle.opentype.specs.Table.{headerLength, storeAt, mapAt, storeOf}
 use Rattle.opentype.specs.Map.{outerOf, innerOf}
 use Rattle.rules.specs.Lists.{Run, runs, newId, oldId}
@@ -67,7 +68,7 @@ module _ (maps : ℕ) (t es u : List ℕ) (few : 0 < maps) (most : maps ≤ 4) (
           rw (e, map-length t rows es m (mapPlan t rows es m)) (omega arith)
 
   part : (m : ℕ) → m < maps → getD (tab (λ k. mapBytes t rows es k) maps) m [] ≡ mapBytes t rows es m
-  part m h = getD-tab (λ k. mapBytes t rows es k) [] m maps h
+  part m h = getD-tab (λ k. mapBytes t rows es k) [] maps m h
 
   table : LaidTable maps (done .store) (tab (λ m. mapBytes t rows es m) maps) u
   unfolding headerLength

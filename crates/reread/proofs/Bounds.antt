@@ -17,9 +17,9 @@ use Rattle.rules.specs.Rewrite.{subtableBytes}
 use Rattle.rules.specs.StoreCut.{storeBytes}
 use Rattle.laws.specs.Inside.{store-inside, regions-inside, subtable-inside}
 use Rattle.laws.specs.Runs.{runAt}
+use Rattle.laws.specs.Usable.{in-array}
 use Rattle.cells.proofs.Cells.{be-lt}
 use Rattle.reread.proofs.Accepted.{Accepted}
-use Rattle.reread.proofs.Open.{in-array}
 use Rattle.reread.proofs.Columns.{order-few}
 use Rattle.reread.proofs.Runs.{few-runs, runs-items, piece-short, pieces-short}
 use Rattle.laid.proofs.Store.{length-layStore}

@@ -17,11 +17,12 @@ use Rattle.opentype.specs.Subtable.{itemCount, delta}
 use Rattle.rules.specs.Lists.{Run, runs}
 use Rattle.rules.specs.Columns.{order, keptDeltas}
 use Rattle.laws.specs.Runs.{runAt}
+use Rattle.laws.specs.Usable.{in-array}
 use Rattle.demands.specs.Reading.{Readable}
 use Rattle.demands.specs.Rows.{KeptColumns, KeptRow}
 use Rattle.demands.specs.KeepsStore.{hasOuter}
 use Rattle.reread.proofs.Accepted.{Accepted}
-use Rattle.reread.proofs.Open.{in-array, good-store, good-regions, good-offset, good-subtable}
+use Rattle.reread.proofs.Open.{good-store, good-regions, good-offset, good-subtable}
 use Rattle.reread.proofs.Columns.{order-few, order-inside, order-once, order-out}
 use Rattle.reread.proofs.Fit.{kept-at, length-kept}
 use Rattle.reread.proofs.Used.{column-region}

@@ -1,23 +1,18 @@
--- Checks 5, 8 and 9 taken apart for the source; checks 3 to 6 put together for what was written.
+-- Checks 8 and 9 taken apart for the source; checks 3 to 6 put together for what was written.
 use Prim.Native.Nat.{ℕ, _+_, _*_, _<_, _≤_}
 use mathlib.Core.Path.{_≡_}
 use mathlib.Core.Bool.{Bool, false}
 use mathlib.Core.List.{List}
 use lib.ListN.{length}
-use lib.Dec.{leb}
-use borrow.Author.Tests.{leb-false, le-ltb, lt-leb, ne-eqb}
+use borrow.Author.Tests.{le-ltb, lt-leb, ne-eqb}
 use Rattle.lists.specs.Pick.{differ-no}
-use Rattle.lists.proofs.Each.{neither, some-not, any-not}
+use Rattle.lists.proofs.Each.{some-not, any-not}
 use Rattle.opentype.specs.Store.{storeFormat, regionsAt, subtableCount, subtableAt, regionCount, recordLength}
 use Rattle.opentype.specs.Subtable.{itemCount, wordCount, columnCount, rowLength, rowsAt}
 use Rattle.rules.specs.Lists.{Run}
 use Rattle.rules.specs.Open.{badStore, badRegions, absentSubtable, badSubtable, mostSubtables, mostRegions, mostColumns}
 use Rattle.rules.specs.StoreCut.{someColumn}
 use Rattle.laws.specs.Runs.{runAt}
-
-pub in-array : (s : List ℕ) (o : ℕ) → absentSubtable s o ≡ false → o < subtableCount s
-unfolding absentSubtable
-in-array s o e = leb-false (subtableCount s) o (neither (leb (subtableCount s) o) _ e .0)
 
 -- the test holds for no column of any used subtable
 pub no-column : (s : List ℕ) (rs : List Run) (f : ℕ → List ℕ → ℕ → Bool) (k c : ℕ) → someColumn s rs f ≡ false → k < length rs
