@@ -1,4 +1,6 @@
 // The C interface: document 01's numbers for the answers of the calls below. Nothing is decided here.
+#![tactic(auto)]
+
 ghost use Rattle.std.specs.Prelude.{◌≡◌};
 ghost use Rattle.lists.specs.Pick.{differ};
 ghost use Rattle.rules.specs.Numbers.{number_of_answer, length_of_answer};

@@ -24,7 +24,7 @@ apart e = let z : ◌≡◌ {A = ℕ} 0 1 = cc in absurd (omega arith)
 -- a signed value reaches a callee by its bits, so what the callee ensures speaks of `to_z w32 (of_z w32 z)`: this takes that off. The bound is
 -- `c.fits.x.sfits` of a parameter, `c.f.ok` of a call's result, and `c.f-arg.given` of a slice's element
 pub same32 : (z : ℤ) → mag z < 2 ^ 31 → to_z w32 (of_z w32 z) ≡ z
-same32 z h = to_z-of_z (record { sfits = h })
+same32 z h = to_z-of_z {w = w32} (record { sfits = h })
 
 -- ---- a number of bits, as an i32
 
@@ -84,7 +84,7 @@ sign-bits q h (negsuc n) e l =
 
 pub cell-is : (w : ℕ) {v u : ℕ} {s : List ℕ} {at : ℕ} {z : ℤ} → mag z < 2 ^ 31 → z ≡ sign (256 ^ w / 2) u
     → Cell w s at u → v ≡ w → to_z w32 (of_z w32 z) ≡ signed_at v s at
-cell-is w f e p q = to_z-of_z (record { sfits = f }) ∙ e ∙ rw (q, p.is)
+cell-is w f e p q = to_z-of_z {w = w32} (record { sfits = f }) ∙ e ∙ rw (q, p.is)
 
 -- a signed argument reaches a callee by its bits, so what the callee ensures speaks of `to_z w32 (of_z w32 z)`
 pub put_is : (w : ℕ) {v u at : ℕ} {z : ℤ} {l n : List ℕ} → SFits w32 z → Wrote l at (be_bytes w u) n

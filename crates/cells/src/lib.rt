@@ -1,4 +1,6 @@
 // Numbers in bytes: big-endian cells, unsigned and signed, read and written.
+#![tactic(auto)]
+
 ghost use Rattle.std.specs.Prelude.{◌≡◌, ◌+◌, ◌≤◌, ◌<◌, ◌^◌, length};
 ghost use Rattle.std.specs.Int.Signed.{mag as magnitude};
 ghost use Rattle.std.specs.Int.{w32};

@@ -1,4 +1,6 @@
 // One subtable: the search for a long delta, and the tally of its columns.
+#![tactic(auto)]
+
 pub mod long;
 pub mod tally;
 

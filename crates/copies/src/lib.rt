@@ -1,4 +1,6 @@
 // Bytes copied from one part to another.
+#![tactic(auto)]
+
 ghost use Rattle.std.specs.Prelude.{◌+◌, ◌≤◌, ◌≡◌, true, length, take};
 
 pub fn copy(out: &mut [u8], s: &[u8])

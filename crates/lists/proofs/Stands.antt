@@ -70,4 +70,4 @@ stands_piece f d (x ∷ xs) n zero h s l = rw (zero-mul, add-zero) (stands_left 
 stands_piece {at = at} f d (x ∷ xs) n (suc k) h s l =
     let o : length (f x) ≡ n = h 0 (omega arith) in
     let p : at + suc k * n ≡ at + length (f x) + k * n = rw suc-mul (omega arith) in
-    rw p (stands_piece f d xs n k (λ i m. h (suc i) (omega arith)) (stands_right (f x) (flat f xs) s) (omega arith))
+    rw p (stands_piece {at = at + length (f x)} f d xs n k (λ i m. h (suc i) (omega arith)) (stands_right (f x) (flat f xs) s) (omega arith))

@@ -1,4 +1,6 @@
 // The maps of a cut table: each one's plan, and its bytes written into a lent part of the output.
+#![tactic(auto)]
+
 ghost use Rattle.std.specs.Prelude.{◌≡◌, true, false, ◌+◌, ◌*◌, ◌-◌, ◌^◌, ◌≤◌, ◌<◌, max, ltb, eqb, length, get_or, take};
 ghost use Rattle.lists.specs.Pick.{pick, both, differ};
 ghost use Rattle.lists.specs.Search.{member};

@@ -1,4 +1,6 @@
 // The first pass over a store: every check is asked, and every size worked out, before a byte is written.
+#![tactic(auto)]
+
 ghost use Rattle.std.specs.Prelude.{◌≡◌, true, false, ◌+◌, ◌^◌, ◌≤◌, ◌<◌, length, take};
 ghost use Rattle.lists.specs.Pick.{pick};
 ghost use Rattle.opentype.specs.Store.{region_count};

@@ -4,6 +4,8 @@
 //    9,088   by segment, outers first, the slot where it starts
 //    9,345   the shift: a slot is for 2^shift inners
 //   12,288   by slot, modulo 4,096, the place of the first pair in it
+#![tactic(auto)]
+
 ghost use Rattle.std.specs.Prelude.{◌≡◌, false, ◌+◌, ◌*◌, ◌≤◌, ◌<◌, length, take, drop};
 ghost use Rattle.lists.specs.Search.{place};
 ghost use Rattle.rules.specs.Lists.{outer, twice};

@@ -1,4 +1,6 @@
 // The objects of a planned store, each written into its part of the output.
+#![tactic(auto)]
+
 ghost use Rattle.std.specs.Prelude.{◌≡◌, false, ◌++◌, ◌+◌, ◌*◌, ◌^◌, ◌≤◌, ◌<◌, length, get_or, take, drop};
 ghost use Rattle.lists.specs.Pick.{pick};
 ghost use Rattle.lists.specs.Gather.{flat, rank};

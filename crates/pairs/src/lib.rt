@@ -1,4 +1,6 @@
 // Lists of kept pairs: whether one keeps document 01's rules, and where the pairs of one outer end.
+#![tactic(auto)]
+
 ghost use Rattle.std.specs.Prelude.{◌≡◌, true, false, ◌++◌, ◌≤◌, ◌<◌, length, get_or, take, drop};
 ghost use Rattle.lists.proofs.Ascending.{Rises};
 ghost use Rattle.rules.specs.Lists.{outer, outers_fall, twice, bad_pairs};

@@ -1,4 +1,6 @@
 // A store is planned: every check is asked, and every size known, before a byte is written.
+#![tactic(auto)]
+
 ghost use Rattle.std.specs.Prelude.{◌≡◌, false, not, ◌+◌, ◌*◌, ◌≤◌, length, take};
 ghost use Rattle.lists.specs.Pick.{both};
 ghost use Rattle.lists.specs.Gather.{rank};

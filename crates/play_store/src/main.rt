@@ -1,5 +1,7 @@
 // Plays recorded cuts of a store: each call's number and length, its output, also behind the length, and its work area are
 // compared with the record's.
+#![tactic(auto)]
+
 ghost use Rattle.std.specs.Prelude.{◌≡◌, ◌*◌, length};
 
 use cells::u32_at;

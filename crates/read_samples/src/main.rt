@@ -1,4 +1,6 @@
 // Reads deltas, rows and map entries, compares them with what document 01 says, and tells what differs.
+#![tactic(auto)]
+
 mod calls;
 mod maps;
 mod refusals;

@@ -1,4 +1,6 @@
 // Reading stores, maps and tables: each object is opened with its refusal, and then read. Here are the three public readers.
+#![tactic(auto)]
+
 ghost use Rattle.std.specs.Prelude.{◌≡◌};
 ghost use Rattle.rules.specs.Numbers.{number_of};
 ghost use Rattle.rules.specs.Readers.{delta_of, row_of, entry_of};

@@ -1,4 +1,6 @@
 // Plays document 01's examples and the fixed list of answers, data/calls, and prints how many calls there are and how many differ.
+#![tactic(auto)]
+
 mod call;
 mod examples;
 mod memory;

@@ -1,4 +1,6 @@
 // The cut of a store.
+#![tactic(auto)]
+
 ghost use Rattle.std.specs.Prelude.{◌≡◌, false, ◌≤◌, length, take};
 ghost use Rattle.rules.specs.Lists.{outers_fall, runs};
 ghost use Rattle.rules.specs.Open.{bad_store};

@@ -1,5 +1,7 @@
 // The bytes of a subtable: the header, the region indexes, the rows.
 // Document 01, "Rewriting a subtable".
+#![tactic(auto)]
+
 pub mod by_cell;
 pub mod whole;
 

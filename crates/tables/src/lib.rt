@@ -1,4 +1,6 @@
 // The cut of HVAR and VVAR: one body over the number of maps.
+#![tactic(auto)]
+
 ghost use Rattle.std.specs.Prelude.{◌≡◌, false, ◌≤◌, ◌<◌, ◌^◌, length, take};
 ghost use Rattle.opentype.specs.Table.{store_at, store_of};
 ghost use Rattle.rules.specs.Numbering.{kept_pairs};
