@@ -1,9 +1,8 @@
 -- No trace of what was cut: what is written is there for a listed row or glyph.
-use Rattle.std.specs.Prelude.{ℕ, ◌+◌, ◌*◌, ◌<◌, ◌≤◌, ◌≡◌, List, length, take, pos}
-use Rattle.opentype.specs.Store.{subtable_at, subtable_count, regions_at, region_count, record_length}
-use Rattle.opentype.specs.Subtable.{item_count, region_index, rows_at, row_length}
-use Rattle.opentype.specs.Map.{map_head, map_count, entry_bytes}
-use Rattle.opentype.specs.Table.{header_length, store_at, map_at, store_of, glyph_outer, glyph_inner}
+use Rattle.std.specs.Prelude.{ℕ, ◌<◌, ◌≡◌, List, length, take, pos}
+use Rattle.opentype.specs.Store.{subtable_at, subtable_count, region_count}
+use Rattle.opentype.specs.Subtable.{item_count, region_index}
+use Rattle.opentype.specs.Table.{store_of, glyph_outer, glyph_inner}
 use Rattle.demands.specs.Reading.{delta_in, columns_in}
 use Rattle.demands.specs.KeepsStore.{outer_at, outers_before, pairs_of}
 use Rattle.demands.specs.KeepsGlyphs.{Listed, old_at, new_at, OneRow}
@@ -22,13 +21,6 @@ pub record Naming (w : List ℕ) (r : ℕ) : Type 0 where
   pub inside : column < columns_in w outer
   pub names : region_index w (subtable_at w outer) column ≡ r
 
--- place i of the store w lies in its header, in its region list or in one of its subtables
-pub data InStore (w : List ℕ) (i : ℕ) : Type 0 where
-  header : i < 8 + 4 * subtable_count w → InStore w i
-  regions : regions_at w ≤ i → i < regions_at w + 4 + region_count w * record_length w → InStore w i
-  subtable : (o : ℕ) → o < subtable_count w → subtable_at w o ≤ i
-      → i < rows_at w (subtable_at w o) + item_count w (subtable_at w o) * row_length w (subtable_at w o) → InStore w i
-
 -- Every subtable of w has a row; every column has a row that isn't 0 there; every region record is named by such a column.
 pub record Lean (w : List ℕ) : Type 0 where
   pub subtables : (o : ℕ) → o < subtable_count w → 0 < item_count w (subtable_at w o)
@@ -42,10 +34,9 @@ pub record PairOf (pairs : List ℕ) (o i : ℕ) : Type 0 where
   pub outer : outers_before pairs (outer_at pairs place) ≡ o
   pub inner : pairs_of (take place pairs) (outer_at pairs place) ≡ i
 
--- Of a store: every written row is a listed pair's, and every byte belongs to an object.
+-- Of a store: every written row is a listed pair's.
 pub record NoTrace (s pairs w : List ℕ) : Type 0 where
   pub lean : Lean w
-  pub bytes : (i : ℕ) → i < length w → InStore w i
   pub rows : (o i : ℕ) → o < subtable_count w → i < item_count w (subtable_at w o) → PairOf pairs o i
 
 -- a map and a place of the list whose glyph reads row i of subtable o in u
@@ -56,18 +47,10 @@ pub record GlyphOf (maps : ℕ) (t es u : List ℕ) (o i : ℕ) : Type 0 where
   pub outer : glyph_outer u map (new_at es place) ≡ o
   pub inner : glyph_inner u map (new_at es place) ≡ i
 
--- place i of the table u lies in its header, in its store or in one of its maps
-pub data InTable (maps : ℕ) (u : List ℕ) (i : ℕ) : Type 0 where
-  header : i < header_length maps → InTable maps u i
-  store : (j : ℕ) → i ≡ store_at u + j → InStore (store_of u) j → InTable maps u i
-  map : (m : ℕ) → m < maps → map_at u m ≤ i
-      → i < map_at u m + map_head u (map_at u m) + map_count u (map_at u m) * entry_bytes u (map_at u m) → InTable maps u i
-
 -- Of a table: every written row is the row of some listed glyph in some map, and none is written twice: glyphs that read one old row read
--- one new row. Every byte belongs to an object.
+-- one new row.
 pub record NoTraceInTable (maps : ℕ) (t es u : List ℕ) : Type 0 where
   pub lean : Lean (store_of u)
-  pub bytes : (i : ℕ) → i < length u → InTable maps u i
   pub rows : (o i : ℕ) → o < subtable_count (store_of u) → i < item_count (store_of u) (subtable_at (store_of u) o) → GlyphOf maps t es u o i
   pub once : (l j m n : ℕ) → Listed maps t es l j → Listed maps t es m n
       → OneRow t l (old_at es j) m (old_at es n) → OneRow u l (new_at es j) m (new_at es n)

@@ -33,7 +33,7 @@ use Rattle.reread.proofs.Accepted.{Accepted}
 use Rattle.reread.proofs.Columns.{order-live}
 use Rattle.reread.proofs.Fit.{kept_at, length-kept}
 use Rattle.reread.proofs.Runs.{runs-some}
-use Rattle.reread.proofs.Written.{plan_for, regions-again, subtable-again}
+use Rattle.reread.proofs.Written.{plan_for, regions-again, subtable_again}
 use Rattle.reread.proofs.Keeps.{runs-kept}
 
 -- a live column has an item that isn't 0 there
@@ -107,7 +107,7 @@ module _ {s pairs st w : List ℕ} (ok : Accepted s pairs st) (laid : Stands w 0
       let run = run_at rs by.run in
       let at = subtable_at s run.outer in
       let c = live-kept s at run.inners by.column by.there by.is_live in
-      let new = subtable-again ok laid by.run by.inside in
+      let new = subtable_again ok laid by.run by.inside in
       record {
         outer = by.run;
         column = c.0;

@@ -18,8 +18,8 @@ use Rattle.reread.proofs.Keeps.{outers-inside, runs-kept, row_as, columns_as}
 use Rattle.keeps.proofs.Follows.{sums_kept}
 
 module _ {s pairs st w : List ℕ} (ok : Accepted s pairs st) (laid : Stands w 0 st) where
-  kept-subtable : (k : ℕ) → k < length pairs → KeptSubtable s pairs w (outer_at pairs k)
-  kept-subtable k h =
+  kept_subtable : (k : ℕ) → k < length pairs → KeptSubtable s pairs w (outer_at pairs k)
+  kept_subtable k h =
       let o = outer_at pairs k in
       let run = run_of pairs (accepted_climbs pairs ok.rise) (subtable_count s) (outers-inside ok) o (has_at pairs k h) in
       let kept = (runs-kept ok laid).each (outers_before pairs o) run.inside in
@@ -38,7 +38,7 @@ module _ {s pairs st w : List ℕ} (ok : Accepted s pairs st) (laid : Stands w 0
         readable = kept.readable;
         axes = kept.axes;
         count = kept.count ∙ runs-count pairs (accepted_climbs pairs ok.rise) (subtable_count s) (outers-inside ok);
-        subtables = kept-subtable;
+        subtables = kept_subtable;
       }
 
 pub keeps-store : OfStoreCuts KeptStore

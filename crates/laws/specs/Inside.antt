@@ -48,9 +48,9 @@ pub record SubtableInside (s : List ℕ) (at : ℕ) : Type 0 where
   pub few : column_count s at ≤ 4096
   pub inside : rows_at s at + item_count s at * row_length s at ≤ length s
 
-pub subtable-inside : (s : List ℕ) (at : ℕ) → bad_subtable s at ≡ false → SubtableInside s at
+pub subtable_inside : (s : List ℕ) (at : ℕ) → bad_subtable s at ≡ false → SubtableInside s at
 unfolding bad_subtable
-subtable-inside s at e =
+subtable_inside s at e =
     let a = none (ltb (length s) (at + 6)) _ e in
     let b = none (ltb (column_count s at) (word_count s at)) _ a.1 in
     let c = none (ltb 4096 (column_count s at)) _ b.1 in

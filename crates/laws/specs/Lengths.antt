@@ -83,10 +83,10 @@ unfolding null_store
 length_null = simp (length-append, length-be_bytes)
 
 -- the lengths of the written subtables, whatever the used regions
-pub subtable-sizes : (s used : List ℕ) (rs : List Run) → map (λ part. length part) (map (λ run. subtable_bytes s used run) rs) ≡ sizes s rs
+pub subtable_sizes : (s used : List ℕ) (rs : List Run) → map (λ part. length part) (map (λ run. subtable_bytes s used run) rs) ≡ sizes s rs
 unfolding sizes subtable_bytes
-subtable-sizes s used [] = refl
-subtable-sizes s used (run ∷ rs) = rw (planned_size s (subtable_at s run.outer) used run.inners, subtable-sizes s used rs)
+subtable_sizes s used [] = refl
+subtable_sizes s used (run ∷ rs) = rw (planned_size s (subtable_at s run.outer) used run.inners, subtable_sizes s used rs)
 
 -- ---- the region list
 
@@ -118,4 +118,4 @@ module _ (s : List ℕ) (inside : regions_at s + 4 + region_count s * record_len
   unfolding store_bytes
   length-bytes rs =
       length-store (region_list_bytes s (used_regions s rs)) (map (λ run. subtable_bytes s (used_regions s rs) run) rs)
-      ∙ rw (subtable-sizes s (used_regions s rs) rs, length-map (λ run. subtable_bytes s (used_regions s rs) run) rs, length-list rs)
+      ∙ rw (subtable_sizes s (used_regions s rs) rs, length-map (λ run. subtable_bytes s (used_regions s rs) run) rs, length-list rs)

@@ -12,7 +12,7 @@ use Rattle.cells.specs.Be.{be}
 use Rattle.cells.specs.Sign.{signed_at}
 use Rattle.opentype.specs.Store.{subtable_at}
 use Rattle.opentype.specs.Subtable.{item_count, word_count, column_count, long, word_size, rest_size, cell_at, cell_size, cell, row, delta}
-use Rattle.laws.specs.Inside.{subtable-inside}
+use Rattle.laws.specs.Inside.{subtable_inside}
 use Rattle.laws.specs.Rows.{row-cell}
 use Rattle.rules.specs.declared.Refusal.TheVariants.{BadStore, AbsentSubtable, BadSubtable}
 use Rattle.rules.specs.declared.Delta.{Delta}
@@ -72,7 +72,7 @@ unfolding delta_of row_of opened_or found_row delta
 row_holds_deltas s o i c e h =
     let at = subtable_at s o in
     let a = accepted s o i e in
-    let f = subtable-inside s at a.2 in
+    let f = subtable_inside s at a.2 in
     rw (a.0, a.1, a.2, lt-leb _ _ h) (one at (leb (item_count s at) i) (row-cell s at i c f.order h))
   where
     one : (at : ℕ) (b : Bool)

@@ -34,9 +34,9 @@ module _ {A : Type 0} (s : List ℕ) (o : ℕ) (refuse : Refusal → A) (next : 
   unfolding opened_or
   store-refused b = rw b
 
-  pub subtable-refused : {r : Refusal} → bad_store s ≡ false → Unusable s o r → refuse r ≡ opened_or refuse s o next
+  pub subtable_refused : {r : Refusal} → bad_store s ≡ false → Unusable s o r → refuse r ≡ opened_or refuse s o next
   unfolding opened_or
-  subtable-refused b u = rw b (unusable-is u refuse next)
+  subtable_refused b u = rw b (unusable-is u refuse next)
 
   pub goes_on : {t : Subtable} → bad_store s ≡ false → Usable s o t → next ≡ opened_or refuse s o next
   unfolding opened_or

@@ -17,7 +17,7 @@ use Rattle.rules.specs.Open.{absent_subtable, bad_subtable}
 use Rattle.rules.specs.declared.Refusal.TheVariants.{AbsentSubtable, BadSubtable}
 use Rattle.rules.specs.declared.Refusal.{Refusal}
 use Rattle.lists.specs.Pick.{pick}
-use Rattle.laws.specs.Inside.{subtable-inside}
+use Rattle.laws.specs.Inside.{subtable_inside}
 use Rattle.laws.specs.Rows.{row_inside, row-short, cell-inside}
 use Rattle.readers.specs.declared.subtable.Subtable.{Subtable}
 use Rattle.readers.specs.declared.subtable.Found.{Found}
@@ -27,18 +27,18 @@ use Rattle.readers.specs.Opened.{Opened, Whole, OpeningAt, Usable, Unusable, Ope
 -- the fields of a subtable that 6 lets through
 module _ (s : List ℕ) (at : ℕ) (good : bad_subtable s at ≡ false) where
   pub head-inside : at + 6 ≤ length s
-  head-inside = (subtable-inside s at good).head
+  head-inside = (subtable_inside s at good).head
 
   module _ {field columns : ℕ} (f : Cell 2 s (at + 2) field) (c : Cell 2 s (at + 4) columns) where
     pub columns-few : (field % 0x8000 ≤ columns) × (columns ≤ 4096)
     unfolding word_count word_field column_count
-    columns-few = rw (f.is, c.is) ((subtable-inside s at good).order, (subtable-inside s at good).few)
+    columns-few = rw (f.is, c.is) ((subtable_inside s at good).order, (subtable_inside s at good).few)
 
     pub whole : {items row : ℕ} → Cell 2 s at items → row ≡ length_of_row (leb 0x8000 field) (field % 0x8000) columns
         → Whole s at (record { at = at; items = items; words = field % 0x8000; columns = columns; long = leb 0x8000 field; row = row; rows = at + 6 + 2 * columns })
     unfolding item_count word_field word_count column_count is_long row_length rows_at
     whole {items} {row} i r =
-        let n : at + 6 + 2 * columns + items * row ≤ length s = rw (r, f.is, c.is, i.is) (subtable-inside s at good).inside in
+        let n : at + 6 + 2 * columns + items * row ≤ length s = rw (r, f.is, c.is, i.is) (subtable_inside s at good).inside in
         let b = row-short (leb 0x8000 field) (field % 0x8000) columns columns-few.0 in
         record {
           good = good;

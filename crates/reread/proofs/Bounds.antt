@@ -15,7 +15,7 @@ use Rattle.rules.specs.Columns.{Plan, plan_of, order}
 use Rattle.rules.specs.Regions.{used_regions, region_list_bytes}
 use Rattle.rules.specs.Rewrite.{subtable_bytes}
 use Rattle.rules.specs.StoreCut.{store_bytes}
-use Rattle.laws.specs.Inside.{store-inside, regions-inside, subtable-inside}
+use Rattle.laws.specs.Inside.{store-inside, regions-inside, subtable_inside}
 use Rattle.laws.specs.Runs.{run_at}
 use Rattle.laws.specs.Usable.{in_array}
 use Rattle.cells.proofs.Cells.{be_lt}
@@ -37,10 +37,10 @@ row-short p = by p.is_long (length-append p.wide p.narrow)
     by false t = omega arith
 
 -- 6 bytes, 2 a column, and the rows
-subtable-short : (s used : List ℕ) (run : Run) → column_count s (subtable_at s run.outer) ≤ most_columns
+subtable_short : (s used : List ℕ) (run : Run) → column_count s (subtable_at s run.outer) ≤ most_columns
     → length (subtable_bytes s used run) ≤ 8198 + length run.inners * 16384
 unfolding subtable_bytes
-subtable-short s used run h =
+subtable_short s used run h =
     let at = subtable_at s run.outer in
     let p = plan_of s at run.inners in
     let few = order-few s at run.inners in
@@ -65,7 +65,7 @@ module _ {s pairs st : List ℕ} (ok : Accepted s pairs st) where
   items_8192 k h = le_trans (piece_short (λ run. run.inners) _ (runs pairs) k h) all-items
 
   pub columns_4096 : (k : ℕ) → k < length (runs pairs) → column_count s (subtable_at s (run_at (runs pairs) k).outer) ≤ most_columns
-  columns_4096 k h = (subtable-inside s _ (ok.whole k h)).few
+  columns_4096 k h = (subtable_inside s _ (ok.whole k h)).few
 
   pub used_4096 : length (used_regions s (runs pairs)) ≤ most_regions
   used_4096 = le_trans (few-used s (runs pairs)) (regions-inside s ok.regions).few
@@ -81,7 +81,7 @@ module _ {s pairs st : List ℕ} (ok : Accepted s pairs st) where
       let records = mul-le-mul used_4096 size in
       let list = length_region_list s used (used_record s rs (regions-inside s ok.regions).inside) in
       let all = pieces_short (λ run. subtable_bytes s used run) (λ run. run.inners) _ 8198 16384 rs
-      (λ k h. subtable-short s used (run_at rs k) (columns_4096 k h)) in
+      (λ k h. subtable_short s used (run_at rs k) (columns_4096 k h)) in
       let items = all-items in
       let count = runs_256 in
       rw (length-lay_store (region_list_bytes s used) (map (λ run. subtable_bytes s used run) rs), list, length-map rs (λ run. subtable_bytes s used run)) (omega arith)

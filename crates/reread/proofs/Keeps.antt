@@ -22,13 +22,13 @@ use Rattle.demands.specs.Reading.{Readable}
 use Rattle.demands.specs.Rows.{KeptColumns, KeptRow}
 use Rattle.demands.specs.KeepsStore.{has_outer}
 use Rattle.reread.proofs.Accepted.{Accepted}
-use Rattle.reread.proofs.Open.{good-store, good-regions, good_offset, good-subtable}
+use Rattle.reread.proofs.Open.{good-store, good-regions, good_offset, good_subtable}
 use Rattle.reread.proofs.Columns.{order-few, order-inside, order-once, order_out}
 use Rattle.reread.proofs.Fit.{kept_at, length-kept}
 use Rattle.reread.proofs.Used.{column_region}
 use Rattle.reread.proofs.Places.{has-run}
 use Rattle.reread.proofs.Bounds.{runs_256, columns_4096, used_4096}
-use Rattle.reread.proofs.Written.{place_of, plan_for, parts_count, store-again, regions-again, subtable-again}
+use Rattle.reread.proofs.Written.{place_of, plan_for, parts_count, store-again, regions-again, subtable_again}
 
 is_zero : (z : ℤ) → nil z ≡ true → z ≡ pos 0
 is_zero (pos n) e = ap pos (eqb-true n 0 e)
@@ -72,7 +72,7 @@ module _ {s pairs st w : List ℕ} (ok : Accepted s pairs st) (laid : Stands w 0
       let run = run_at rs k in
       let at = place_of s run in
       let is = run.inners in
-      let new = subtable-again ok laid k h in
+      let new = subtable_again ok laid k h in
       record {
         items = new.items;
         columns = record {
@@ -106,13 +106,13 @@ module _ {s pairs st w : List ℕ} (ok : Accepted s pairs st) (laid : Stands w 0
         regions = good-regions w (omega (arith, regions.inside)) (rw regions.count (used_4096 ok)) regions.inside;
         there = λ k h. good_offset w k h (λ e. omega (arith, store.places k (rw (parts_count s rs) (run k h)), e));
         whole = λ k h.
-            let new = subtable-again ok laid k (run k h) in
+            let new = subtable_again ok laid k (run k h) in
             let p = plan_for s (run_at rs k) in
             let t = length-append p.wide p.narrow in
             let few = le_trans (order-few s (place_of s (run_at rs k)) (run_at rs k).inners) (columns_4096 ok k (run k h)) in
-            good-subtable w (subtable_at w k) new.head (rw (new.words, new.columns) (omega arith)) (rw new.columns few) new.inside;
+            good_subtable w (subtable_at w k) new.head (rw (new.words, new.columns) (omega arith)) (rw new.columns few) new.inside;
         named = λ k c h l.
-            let new = subtable-again ok laid k (run k h) in
+            let new = subtable_again ok laid k (run k h) in
             let g : c < length (order (plan_for s (run_at rs k))) = rw new.columns at l in
             rw (new.indexes c g, regions.count) (column_region s rs k c ok.indexes (run k h) g).0;
       }

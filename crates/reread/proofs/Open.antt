@@ -34,10 +34,10 @@ pub good_offset : (w : List ℕ) (k : ℕ) → k < subtable_count w → (subtabl
 unfolding absent_subtable
 good_offset w k h n = rw (lt-leb (subtable_count w) k h, ne_eqb (subtable_at w k) 0 n)
 
-pub good-subtable : (w : List ℕ) (at : ℕ) → at + 6 ≤ length w → word_count w at ≤ column_count w at → column_count w at ≤ most_columns
+pub good_subtable : (w : List ℕ) (at : ℕ) → at + 6 ≤ length w → word_count w at ≤ column_count w at → column_count w at ≤ most_columns
     → rows_at w at + item_count w at * row_length w at ≤ length w → bad_subtable w at ≡ false
 unfolding bad_subtable
-good-subtable w at h m n l =
+good_subtable w at h m n l =
     rw (
       le-ltb (length w) (at + 6) h,
       le-ltb (column_count w at) (word_count w at) m,

@@ -59,10 +59,10 @@ module _ {s pairs st w : List ℕ} (ok : Accepted s pairs st) (laid : Stands w 0
       laid_regions s (used_regions s (runs pairs)) (axes-small ok) (omega arith)
       (used_record s (runs pairs) (regions-inside s ok.regions).inside) store-again.regions
 
-  pub subtable-again : (k : ℕ) → k < length (runs pairs) → let run = run_at (runs pairs) k in
+  pub subtable_again : (k : ℕ) → k < length (runs pairs) → let run = run_at (runs pairs) k in
       LaidSubtable s (place_of s run) (used_regions s (runs pairs)) run.inners (plan_for s run) w (subtable_at w k)
   unfolding subtable_bytes middle_width
-  subtable-again k h =
+  subtable_again k h =
       let rs = runs pairs in
       let run = run_at rs k in
       let at = place_of s run in
@@ -77,4 +77,4 @@ module _ {s pairs st w : List ℕ} (ok : Accepted s pairs st) (laid : Stands w 0
 
   -- the length of a written row is the plan's
   pub row_length_written : (k : ℕ) → k < length (runs pairs) → row_length w (subtable_at w k) ≡ plan_length (plan_for s (run_at (runs pairs) k))
-  row_length_written k h = (subtable-again k h).rows
+  row_length_written k h = (subtable_again k h).rows

@@ -17,7 +17,7 @@ use Rattle.rules.specs.Regions.{is_used, used_regions, region_list_bytes}
 use Rattle.rules.specs.Rewrite.{subtable_bytes}
 use Rattle.rules.specs.StoreCut.{lay_store, store_bytes}
 use Rattle.laws.specs.Inside.{regions-inside}
-use Rattle.laws.specs.Lengths.{sum, sizes, length-list, length-bytes, subtable-sizes}
+use Rattle.laws.specs.Lengths.{sum, sizes, length-list, length-bytes, subtable_sizes}
 use Rattle.rows.specs.Area.{used_in, used_of}
 use Rattle.plan.specs.declared.Layout.{Layout}
 use Rattle.plan.specs.Layout.{Ready}
@@ -66,7 +66,7 @@ module _ {s pairs w : List ℕ} {l : Layout} (r : Ready s pairs w l) where
       let used = used_regions s (runs pairs) in
       let parts = map (λ run. subtable_bytes s used run) (runs pairs) in
       let n : length parts ≡ l.count = length-map (runs pairs) (λ run. subtable_bytes s used run) ∙ sym r.count in
-      rw (el, eh, r.noted, ← subtable-sizes s used (runs pairs), ← offsets-by (8 + 4 * l.count + (4 + l.used * (6 * l.axes))) parts, ← flat_map (λ run. subtable_bytes s used run) (runs pairs), n, list-long)
+      rw (el, eh, r.noted, ← subtable_sizes s used (runs pairs), ← offsets-by (8 + 4 * l.count + (4 + l.used * (6 * l.axes))) parts, ← flat_map (λ run. subtable_bytes s used run) (runs pairs), n, list-long)
 
   pub store_laid : (out : List ℕ) {a b d f : List ℕ} (head list : ℕ) → head ≡ 8 + 4 * l.count → list ≡ head + (4 + l.used * (6 * l.axes)) → length out ≡ l.length
       → a ≡ be_bytes 2 1 ++ be_bytes 4 head ++ be_bytes 2 l.count → b ≡ offsets_by list (take l.count (drop 8832 w)) → d ≡ region_list_bytes s (used_of s w)

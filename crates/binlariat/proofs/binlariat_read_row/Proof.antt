@@ -1,7 +1,7 @@
 use mathlib.Core.Path.{sym, ◌∙◌}
 use native.Mathlib.Omega.{arith}
 use Rattle.rules.specs.Readers.{row_of}
-use Rattle.readers.proofs.Answers.{usable, unusable, store-refused, subtable-refused, row_ends, row_absent}
+use Rattle.readers.proofs.Answers.{usable, unusable, store-refused, subtable_refused, row_ends, row_absent}
 use Rattle.binlariat.proofs.Rows.{no_row, row-short, row_placed}
 use borrow.Author.Rules.{rules}
 use Rattle.binlariat.proofs.binlariat_read_row.Statement.{statement}
@@ -48,7 +48,7 @@ returns-5 c =
     let r = c.before.before in
     let e = r.before.before.before in
     rw c.number_of_lem.ensures
-    (no_row _ _ _ (subtable-refused _ _ _ _ (sym e.before.bad_store_lem.ensures ∙ e.if1.false)
+    (no_row _ _ _ (subtable_refused _ _ _ _ (sym e.before.bad_store_lem.ensures ∙ e.if1.false)
     (unusable r.before.before.open-subtable.ensures r.r.given.1)))
 
 pub binlariat-read-row-spec : {M : Type 1} → statement M

@@ -1,7 +1,7 @@
 use mathlib.Core.Path.{sym, ◌∙◌}
 use Rattle.cells.proofs.Twos.{same32}
 use Rattle.rules.specs.Readers.{delta_of}
-use Rattle.readers.proofs.Answers.{usable, unusable, store-refused, subtable-refused, delta_found}
+use Rattle.readers.proofs.Answers.{usable, unusable, store-refused, subtable_refused, delta_found}
 use borrow.Author.Rules.{rules}
 use Rattle.readers.proofs.read_delta.Statement.{statement}
 use Rattle.readers.proofs.read_delta.Tie as tie
@@ -25,7 +25,7 @@ unfolding delta_of
 returns-3 c =
     let r = c.before in
     let e = r.before.before.before in
-    subtable-refused _ _ _ _ (sym e.before.bad_store_lem.ensures ∙ e.if1.false)
+    subtable_refused _ _ _ _ (sym e.before.bad_store_lem.ensures ∙ e.if1.false)
     (unusable r.before.before.open-subtable.ensures r.r.given.1)
 
 pub read-delta-spec : {M : Type 1} → statement M

@@ -1,7 +1,7 @@
 use mathlib.Core.Path.{sym, ◌∙◌}
 use native.Mathlib.Omega.{arith}
 use Rattle.rules.specs.Readers.{row_of}
-use Rattle.readers.proofs.Answers.{usable, unusable, store-refused, subtable-refused, row_ends, row_found, row_absent, parts}
+use Rattle.readers.proofs.Answers.{usable, unusable, store-refused, subtable_refused, row_ends, row_found, row_absent, parts}
 use borrow.Author.Rules.{rules}
 use Rattle.readers.proofs.read_row.Statement.{statement}
 use Rattle.readers.proofs.read_row.Tie as tie
@@ -50,7 +50,7 @@ returns-4 c =
     let r = c.before.before.before in
     let e = r.before.before.before in
     rw c.before.number_of_lem.ensures
-    (parts (subtable-refused _ _ _ _ (sym e.before.bad_store_lem.ensures ∙ e.if1.false)
+    (parts (subtable_refused _ _ _ _ (sym e.before.bad_store_lem.ensures ∙ e.if1.false)
     (unusable r.before.before.open-subtable.ensures r.r.given.1)))
 
 pub read-row-spec : {M : Type 1} → statement M
