@@ -1,7 +1,7 @@
 -- What rows 3, 4, 6, 11 and 12 let through lies inside the bytes.
 use Rattle.std.specs.Prelude.{ℕ, ◌+◌, ◌*◌, ◌≤◌, ◌≡◌, false, List, length, ltb, eqb}
 use Rattle.std.proofs.Common.{arith, ltb-false, eqb-true}
-use Rattle.std.proofs.lemmas.Bool.{eqb-false, not_false}
+use Rattle.std.proofs.lemmas.Bool.{eqb-false, not-false}
 use Rattle.lists.specs.Pick.{differ}
 use Rattle.lists.proofs.Chains.{none}
 use Rattle.opentype.specs.Store.{store_format, regions_at, subtable_count, region_count, record_length}
@@ -11,7 +11,7 @@ use Rattle.opentype.specs.Table.{major_version, header_length}
 use Rattle.rules.specs.Open.{bad_store, bad_regions, bad_subtable, bad_header, bad_map}
 
 same : (m n : ℕ) → differ m n ≡ false → m ≡ n
-same m n e = eqb-true m n (not_false (eqb m n) e)
+same m n e = eqb-true m n (not-false (eqb m n) e)
 
 -- 3
 pub record StoreInside (s : List ℕ) : Type 0 where
