@@ -15,7 +15,7 @@ pub returns-then-not-has_blocks : goal.returns-then-not-has_blocks
 returns-then-not-has_blocks c = agreed_end {at = c.args.n} c.args.n (agreed_more _ (agreed_none c.args.s.now c.args.out.now) (omega arith) (search rules) (search rules) c.copy.ensures) (omega arith)
 
 pub loop-at-init : goal.loop-at-init
-loop-at-init c = let b = c.has_blocks.ensures (not_false _ c.if-not-has_blocks.false-raw) in
+loop-at-init c = let b = c.has_blocks.ensures (not-false _ c.if-not-has_blocks.false-raw) in
     (b.0, b.1, search rules, agreed_none _ _)
 
 pub copy_block-requires : goal.copy_block-requires

@@ -1,0 +1,13 @@
+use Rattle.lists.specs.Pick.{chain}
+use Rattle.opentype.specs.Table.{major_version, header_length}
+use Rattle.rules.specs.Open.{bad_header}
+use borrow.Author.Rules.{rules}
+use Rattle.readers.proofs.open.bad_header.Goals as goal
+
+pub returns-then-t-maps : goal.returns-then-t-maps
+unfolding bad_header header_length
+returns-then-t-maps c = search chain
+
+pub returns : goal.returns
+unfolding bad_header header_length major_version
+returns c = rw (← c.u16_at.ensures.is) (search chain)

@@ -1,0 +1,21 @@
+use Rattle.lists.specs.Pick.{chain}
+use Rattle.opentype.specs.Store.{store_format, subtable_count}
+use Rattle.rules.specs.Open.{bad_store}
+use borrow.Author.Rules.{rules}
+use Rattle.readers.proofs.open.bad_store.Goals as goal
+
+pub returns-then-s-lt8 : goal.returns-then-s-lt8
+unfolding bad_store
+returns-then-s-lt8 c = search chain
+
+pub returns-then-u16_at-ne1 : goal.returns-then-u16_at-ne1
+unfolding bad_store store_format
+returns-then-u16_at-ne1 c = search chain
+
+pub returns-then-count-gt256 : goal.returns-then-count-gt256
+unfolding bad_store store_format subtable_count
+returns-then-count-gt256 c = search chain
+
+pub returns : goal.returns
+unfolding bad_store store_format subtable_count
+returns c = rw (← c.u16_at-count.ensures.is) (search chain)

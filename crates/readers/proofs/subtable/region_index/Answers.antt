@@ -1,0 +1,11 @@
+use Rattle.opentype.specs.Subtable.{region_index}
+use borrow.Author.Rules.{rules}
+use Rattle.readers.proofs.subtable.region_index.Goals as goal
+
+pub returns-clause-value : goal.returns-clause-value
+unfolding region_index
+returns-clause-value c = c.u16_at.ensures.is
+
+pub returns-clause-upper_bound : goal.returns-clause-upper_bound
+unfolding region_index
+returns-clause-upper_bound c = c.u16_at.ensures.small
