@@ -111,9 +111,9 @@ unfolding S T
 far_rows = record { call = cuts_hvar (hex 216 0x00_01_00_00_00_00_00_14_00_00_00_00_00_00_00_6E_00_00_00_00_00_01_00_00_00_0C_00_01_00_00_00_16_00_01_00_01_00_00_00_00_00_00_00_3C_00_00_00_01_00_00_01_02_03_04_05_06_07_08_09_0A_0B_0C_0D_0E_0F_10_11_12_13_14_15_16_17_18_19_1A_1B_1C_1D_1E_1F_20_21_22_23_24_25_26_27_28_29_2A_2B_2C_2D_2E_2F_30_31_32_33_34_35_36_37_38_39_3A_3B_3C_00_17_00_33_00_32_00_32_00_32_00_32_00_32_00_32_00_32_00_32_00_32_00_32_00_32_00_32_00_32_00_32_00_32_00_32_00_32_00_32_00_32_00_32_00_32_00_32_00_32_00_32_00_32_00_32_00_32_00_32_00_32_00_32_00_32_00_32_00_32_00_32_00_32_00_32_00_32_00_32_00_32_00_32_00_32_00_32_00_32_00_32_00_32_00_32_00_32_00_32_00_32_00_32_00_0A) (0 ∷ 65586 ∷ []) 16384 80; demand = fewest }
 
 -- HVAR over T, an advance map, both glyphs in outer 1
-unfoldable pub one-outer : Instance
+unfoldable pub one_outer : Instance
 unfolding S T
-one-outer = record { call = cuts_hvar (hex 82 0x00_01_00_00_00_00_00_14_00_00_00_4B_00_00_00_00_00_00_00_00_00_01_00_00_00_10_00_02_00_00_00_20_00_00_00_29_00_01_00_02_00_00_40_00_40_00_C0_00_C0_00_00_00_00_01_00_00_00_01_00_00_05_00_02_00_00_00_02_00_01_00_00_07_02_00_03_00_03_00_03_00_10_11) (1 ∷ 65538 ∷ []) 16384 120; demand = keeping }
+one_outer = record { call = cuts_hvar (hex 82 0x00_01_00_00_00_00_00_14_00_00_00_4B_00_00_00_00_00_00_00_00_00_01_00_00_00_10_00_02_00_00_00_20_00_00_00_29_00_01_00_02_00_00_40_00_40_00_C0_00_C0_00_00_00_00_01_00_00_00_01_00_00_05_00_02_00_00_00_02_00_01_00_00_07_02_00_03_00_03_00_03_00_10_11) (1 ∷ 65538 ∷ []) 16384 120; demand = keeping }
 
 -- HVAR over T, advance and lsb naming different rows
 unfoldable pub two_maps : Instance
@@ -121,9 +121,9 @@ unfolding S T
 two_maps = record { call = cuts_hvar (hex 89 0x00_01_00_00_00_00_00_14_00_00_00_4B_00_00_00_52_00_00_00_00_00_01_00_00_00_10_00_02_00_00_00_20_00_00_00_29_00_01_00_02_00_00_40_00_40_00_C0_00_C0_00_00_00_00_01_00_00_00_01_00_00_05_00_02_00_00_00_02_00_01_00_00_07_02_00_03_00_03_00_03_00_10_11_00_03_00_03_11_00_10) (1 ∷ 65538 ∷ []) 16384 120; demand = keeping }
 
 unfoldable pub instances : List Instance
-unfolding rows_0_1 rows_2_0 rows_0_2 row_3 delta_128 delta_127 two_outers no_map one_glyph far_rows one-outer two_maps
-instances = rows_0_1 ∷ rows_2_0 ∷ rows_0_2 ∷ row_3 ∷ delta_128 ∷ delta_127 ∷ two_outers ∷ no_map ∷ one_glyph ∷ far_rows ∷ one-outer ∷ two_maps ∷ []
+unfolding rows_0_1 rows_2_0 rows_0_2 row_3 delta_128 delta_127 two_outers no_map one_glyph far_rows one_outer two_maps
+instances = rows_0_1 ∷ rows_2_0 ∷ rows_0_2 ∷ row_3 ∷ delta_128 ∷ delta_127 ∷ two_outers ∷ no_map ∷ one_glyph ∷ far_rows ∷ one_outer ∷ two_maps ∷ []
 
-pub all-met : map (λ i. met i) instances ≡ map (λ i. true) instances
+pub all_met : map (λ i. met i) instances ≡ map (λ i. true) instances
 unfolding instances hex met
-all-met = refl
+all_met = refl
