@@ -10,7 +10,7 @@ use lib.Seq.{drop-cons}
 use Rattle.lists.specs.Pick.{pick}
 use Rattle.lists.specs.Search.{some, any}
 use Rattle.cells.specs.Sign.{outside}
-use Rattle.opentype.specs.Subtable.{long, word_count, column_count, delta}
+use Rattle.opentype.specs.Subtable.{word_count, column_count, delta}
 use Rattle.rules.specs.Lists.{inner}
 use Rattle.rules.specs.Columns.{kept_deltas, keeps_long}
 use Rattle.laws.specs.Long.{long-words}

@@ -10,7 +10,7 @@ ghost use Rattle.columns.specs.Tally.{number_of_size, Decides};
 use readers::subtable::Subtable;
 
 // How large a delta is, or the largest of a column: 0; in -128..127; in -32768..32767; in -65536..65535; outside.
-#[derive(Drop)]
+#[derive(Clone, Copy)]
 pub enum Size {
     Zero,
     Byte,

@@ -7,7 +7,7 @@ ghost use Rattle.readers.specs.Opened.{Opened, Whole, Opening, OpeningAt};
 use rules::Refusal;
 
 // A subtable's fields, each read once: its place in the store, the counts, a row's length, and the place of the rows.
-#[derive(Drop)]
+#[derive(Clone, Copy)]
 pub struct Subtable {
     pub at: usize,
     pub items: usize,
