@@ -9,7 +9,7 @@ use lib.Seq.{length-take-le}
 use Rattle.lists.specs.Search.{place}
 use Rattle.lists.proofs.Selects.{rank_le}
 use Rattle.lists.proofs.Places.{at_place}
-use Rattle.rules.specs.Lists.{outer, runs}
+use Rattle.rules.specs.Lists.{runs}
 use Rattle.rules.specs.Numbering.{new_inner}
 use Rattle.readers.specs.declared.map.Pair.{Pair}
 use Rattle.numbering.specs.Numbered.{used, Numbered, Among, Renumbered}

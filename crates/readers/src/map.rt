@@ -8,7 +8,7 @@ ghost use Rattle.readers.specs.Opened.{OpenedMap};
 
 // A map's fields, each read once: its place, the place of the entries and their count, an entry's bytes, and the bits
 // of its inner number.
-#[derive(Drop)]
+#[derive(Clone, Copy)]
 pub struct Map {
     pub at: usize,
     pub entries: usize,
@@ -18,7 +18,7 @@ pub struct Map {
 }
 
 // Where a glyph's row is.
-#[derive(Drop)]
+#[derive(Clone, Copy)]
 pub struct Pair {
     pub outer: u32,
     pub inner: u32,

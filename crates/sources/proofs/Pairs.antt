@@ -16,7 +16,7 @@ use Rattle.lists.proofs.Each.{some-not}
 use Rattle.lists.proofs.Pieces.{flat_append}
 use Rattle.opentype.specs.Map.{entry, inner_bits, outer_of, inner_of}
 use Rattle.opentype.specs.Table.{map_at}
-use Rattle.rules.specs.Lists.{outer, inner, old_id}
+use Rattle.rules.specs.Lists.{outer, old_id}
 use Rattle.rules.specs.Open.{bad_map}
 use Rattle.rules.specs.Numbering.{present, pair_of, counts, named_pairs, bad_outer}
 use Rattle.rules.specs.TableCut.{bad_maps}

@@ -1,0 +1,15 @@
+use Rattle.rules.specs.Numbering.{present}
+use Rattle.rules.specs.Open.{bad_map}
+use Rattle.opentype.specs.Table.{map_at}
+use Rattle.lists.specs.Search.{some}
+use Rattle.lists.specs.Pick.{both}
+use mathlib.Core.Bool.{false}
+use mathlib.Core.Path.{◌≡◌}
+use Prim.Native.Nat.{◌≤◌, ◌-◌}
+use Rattle.sources.proofs.named.bad_maps.Given as goal
+
+abbrev pub invariant-loop-m : goal.invariant-loop-m
+invariant-loop-m l = (l.m ≤ l.maps) × (some (λ k. both (present l.t k) (bad_map l.t (map_at l.t k))) l.m ≡ false)
+
+abbrev pub decreases-loop-m : goal.decreases-loop-m
+decreases-loop-m l = l.maps - l.m
