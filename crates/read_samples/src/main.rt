@@ -7,79 +7,96 @@ mod refusals;
 mod stores;
 
 use rules::{Delta, Entry};
+use std::io;
 
 // Tells a call that differs, by its numbers.
-fn differs(what: &[u8], a: u32, b: u32, c: u32) {
-    io::write_all(1, what);
-    io::print_decimal(1, a as u64);
-    io::write_all(1, b" ");
-    io::print_decimal(1, b as u64);
-    io::write_all(1, b" ");
-    io::print_decimal(1, c as u64);
-    io::write_all(1, b" differs\n");
+fn differs(rt: &impl Print, what: &str, a: u32, b: u32, c: u32) -> io::Result<()> {
+    println!(rt; "{what} {a} {b} {c} differs")
 }
 
 // The delta reader shall give that number and that value.
-fn delta(store: &[u8], outer: u32, inner: u32, column: u32, number: u32, value: i32) {
+fn delta(
+    rt: &impl Print,
+    store: &[u8],
+    outer: u32,
+    inner: u32,
+    column: u32,
+    number: u32,
+    value: i32,
+) -> io::Result<()> {
     match readers::read_delta(store, outer, inner, column) {
         Delta::Value(z) => {
             if number == 0 && z == value {
-                return;
+                return Ok(());
             }
         }
         Delta::Refused(r) => {
             if number == readers::number_of(r) {
-                return;
+                return Ok(());
             }
         }
     }
-    differs(b"delta ", outer, inner, column);
+    differs(rt, "delta", outer, inner, column)
 }
 
 // The row reader, that number and that part.
-fn row(store: &[u8], outer: u32, inner: u32, number: u32, part: &[u8]) {
+fn row(
+    rt: &impl Print,
+    store: &[u8],
+    outer: u32,
+    inner: u32,
+    number: u32,
+    part: &[u8],
+) -> io::Result<()> {
     let mut given = 0;
     let found = readers::read_row(store, outer, inner, &mut given);
-    if check::same(found, part) {
+    if found == part {
         if given == number {
-            return;
+            return Ok(());
         }
     }
-    differs(b"row ", outer, inner, number);
+    differs(rt, "row", outer, inner, number)
 }
 
 // The map reader, that number and that pair.
-fn entry(map: &[u8], glyph: u32, number: u32, outer: u32, inner: u32) {
+fn entry(
+    rt: &impl Print,
+    map: &[u8],
+    glyph: u32,
+    number: u32,
+    outer: u32,
+    inner: u32,
+) -> io::Result<()> {
     match readers::read_entry(map, glyph) {
         Entry::Pair(o, i) => {
             if number == 0 && o == outer && i == inner {
-                return;
+                return Ok(());
             }
         }
         Entry::Refused(r) => {
             if number == readers::number_of(r) {
-                return;
+                return Ok(());
             }
         }
     }
-    differs(b"entry ", glyph, outer, inner);
+    differs(rt, "entry", glyph, outer, inner)
 }
 
-fn main() {
-    stores::deltas();
-    stores::past();
-    stores::rows();
-    stores::long();
-    stores::no_columns();
-    stores::mixed();
-    maps::outers();
-    maps::formats();
-    maps::inside();
-    maps::refused();
-    refusals::deltas();
-    refusals::rows();
-    calls::deltas();
-    calls::rows();
-    calls::entries();
-    io::write_all(1, b"108 calls read\n");
+fn main(rt: HostRuntime) -> io::Result<()> {
+    stores::deltas(&rt)?;
+    stores::past(&rt)?;
+    stores::rows(&rt)?;
+    stores::long(&rt)?;
+    stores::no_columns(&rt)?;
+    stores::mixed(&rt)?;
+    maps::outers(&rt)?;
+    maps::formats(&rt)?;
+    maps::inside(&rt)?;
+    maps::refused(&rt)?;
+    refusals::deltas(&rt)?;
+    refusals::rows(&rt)?;
+    calls::deltas(&rt)?;
+    calls::rows(&rt)?;
+    calls::entries(&rt)?;
+    println!(rt; "108 calls read")
 }
