@@ -1,4 +1,4 @@
-// The C interface: document 01's numbers for the answers of the calls below. Nothing is decided here.
+// Document 01's numbers for the answers of the calls below: what the crate `binlariat_c` exports to C. Nothing is decided here.
 #![tactic(auto)]
 
 ghost use Rattle.std.specs.Prelude.{◌≡◌};
@@ -66,8 +66,7 @@ fn told_entry(e: Entry, outer: &mut u32, inner: &mut u32) -> u32
     }
 }
 
-#[unsafe(no_mangle)]
-pub extern "C" fn binlariat_cut_store(
+pub fn binlariat_cut_store(
     store: &[u8],
     pairs: &[u32],
     keep_empty: u32,
@@ -83,8 +82,7 @@ pub extern "C" fn binlariat_cut_store(
     )
 }
 
-#[unsafe(no_mangle)]
-pub extern "C" fn binlariat_cut_hvar(
+pub fn binlariat_cut_hvar(
     table: &[u8],
     glyphs: &[u32],
     work: &mut [u32],
@@ -96,8 +94,7 @@ pub extern "C" fn binlariat_cut_hvar(
     told_answer(tables::cut_hvar(table, glyphs, work, out), written)
 }
 
-#[unsafe(no_mangle)]
-pub extern "C" fn binlariat_cut_vvar(
+pub fn binlariat_cut_vvar(
     table: &[u8],
     glyphs: &[u32],
     work: &mut [u32],
@@ -109,8 +106,7 @@ pub extern "C" fn binlariat_cut_vvar(
     told_answer(tables::cut_vvar(table, glyphs, work, out), written)
 }
 
-#[unsafe(no_mangle)]
-pub extern "C" fn binlariat_read_delta(
+pub fn binlariat_read_delta(
     store: &[u8],
     outer: u32,
     inner: u32,
@@ -124,8 +120,7 @@ pub extern "C" fn binlariat_read_delta(
 }
 
 // The row as a place and a length, as a C caller can't be handed a part.
-#[unsafe(no_mangle)]
-pub extern "C" fn binlariat_read_row(
+pub fn binlariat_read_row(
     store: &[u8],
     outer: u32,
     inner: u32,
@@ -156,13 +151,7 @@ pub extern "C" fn binlariat_read_row(
     }
 }
 
-#[unsafe(no_mangle)]
-pub extern "C" fn binlariat_read_entry(
-    map: &[u8],
-    glyph: u32,
-    outer: &mut u32,
-    inner: &mut u32,
-) -> u32
+pub fn binlariat_read_entry(map: &[u8], glyph: u32, outer: &mut u32, inner: &mut u32) -> u32
     ensures value { result ≡ number_of_entry (entry_of map.now glyph) }
     ensures outer_after { outer.new ≡ outer_of_entry (entry_of map.now glyph) }
     ensures inner_after { inner.new ≡ inner_of_entry (entry_of map.now glyph) }
