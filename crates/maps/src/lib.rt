@@ -19,7 +19,7 @@ use readers::map::Map;
 use sources::named::{counts, glyph_pair, source_of};
 
 // What is decided for a map before it is written: its count of entries, the bits of an inner number, an entry's bytes.
-#[derive(Drop)]
+#[derive(Clone, Copy)]
 pub struct MapPlan {
     pub written: bool,
     pub count: usize,

@@ -1,0 +1,12 @@
+use Rattle.rules.specs.Lists.{old_id}
+use Rattle.rules.specs.Numbering.{new_inner}
+use Rattle.sources.specs.Pairs.{pair_at}
+use Rattle.maps.specs.Plans.{kept_in}
+use Rattle.maps.proofs.Most.{Most}
+use Rattle.maps.proofs.new_inner_bits.Given as goal
+
+abbrev pub invariant-loop-i : goal.invariant-loop-i
+invariant-loop-i l = Most (λ e. new_inner (kept_in l.n l.work) (pair_at l.t l.map.at (old_id e))) l.glyphs l.i l.most
+
+abbrev pub decreases-loop-i : goal.decreases-loop-i
+decreases-loop-i l = l.i
