@@ -32,8 +32,7 @@ put_cells-requires-clause-fitting c = let e = c.requires.word_value.0 in
     rw e c.requires.fitted.wide
 
 pub put_cells-requires-clause-out_len : goal.put_cells-requires-clause-out_len
-put_cells-requires-clause-out_len c = let e = c.requires.word_value.0 in
-    omega (arith, whole (goal.at.put_cells-requires-clause-out_len c).Start)
+put_cells-requires-clause-out_len c = omega (arith, whole (goal.at.put_cells-requires-clause-out_len c).Start)
 
 pub slice_bounds-put_cells-end-2 : goal.slice_bounds-put_cells-end-2
 slice_bounds-put_cells-end-2 c = omega (arith, whole (goal.at.slice_bounds-put_cells-end-2 c).Start)
@@ -47,8 +46,7 @@ put_cells-requires-2-clause-fitting c = let e = c.requires.word_value.1 in
     rw e c.requires.fitted.narrow
 
 pub put_cells-requires-2-clause-out_len : goal.put_cells-requires-2-clause-out_len
-put_cells-requires-2-clause-out_len c = let e = c.requires.word_value.1 in
-    omega (arith, whole (goal.at.put_cells-requires-2-clause-out_len c).Start)
+put_cells-requires-2-clause-out_len c = omega (arith, whole (goal.at.put_cells-requires-2-clause-out_len c).Start)
 
 pub returns : goal.returns
 returns c = let a = c.args in
