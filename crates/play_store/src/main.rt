@@ -6,6 +6,8 @@ ghost use Rattle.std.specs.Prelude.{◌≡◌, ◌*◌, length};
 
 use cells::u32_at;
 use rules::Answer;
+use std::io;
+use std::io::Read;
 
 fn same_answer(a: Answer, number: u32, length: usize) -> bool {
     match a {
@@ -96,14 +98,14 @@ fn head_of(raw: &[u8]) -> Head
 }
 
 // Reads n bytes, where there is room.
-fn read_bytes(to: &mut [u8], n: usize) -> bool {
+fn read_bytes(input: &mut impl Read, to: &mut [u8], n: usize) -> bool {
     if n > to.len() {
         return false;
     }
-    io::read_full(0, &mut to[0..n]) == n
+    input.read_exact(&mut to[0..n]).is_ok()
 }
 
-fn read_pairs(pairs: &mut [u32], raw: &mut [u8], n: usize) -> bool {
+fn read_pairs(input: &mut impl Read, pairs: &mut [u32], raw: &mut [u8], n: usize) -> bool {
     if n > pairs.len() {
         return false;
     }
@@ -111,7 +113,7 @@ fn read_pairs(pairs: &mut [u32], raw: &mut [u8], n: usize) -> bool {
     if length > raw.len() {
         return false;
     }
-    io::read_full(0, &mut raw[0..length]);
+    let _ = input.read_exact(&mut raw[0..length]);
     pairs_of(&mut pairs[0..n], &raw[0..length]);
     true
 }
@@ -163,6 +165,7 @@ fn play(h: Head, s: &[u8], pairs: &[u32], work: &mut [u32], out: &mut [u8], want
 
 // Reads the rest of a record, and plays it.
 fn play_record(
+    input: &mut impl Read,
     head: &[u8],
     bytes: &mut [u8],
     raw: &mut [u8],
@@ -174,19 +177,20 @@ fn play_record(
     requires { length head.now ≡ 32 }
 {
     let h = head_of(head);
-    if !read_bytes(bytes, h.bytes) {
+    if !read_bytes(input, bytes, h.bytes) {
         return false;
     }
-    if !read_pairs(pairs, raw, h.pairs) {
+    if !read_pairs(input, pairs, raw, h.pairs) {
         return false;
     }
-    if !read_bytes(want, h.want) {
+    if !read_bytes(input, want, h.want) {
         return false;
     }
     play(h, bytes, pairs, work, out, want)
 }
 
-fn main() {
+fn main(rt: HostRuntime) -> io::Result<()> {
+    let mut input = rt.reader();
     let mut head = [0u8; 32];
     let mut bytes = [0u8; 2048];
     let mut raw = [0u8; 32800];
@@ -197,18 +201,15 @@ fn main() {
     let mut calls: u32 = 0;
     let mut differ: u32 = 0;
     while calls < 10000 {
-        if io::read_full(0, &mut head) < 32 {
+        if input.read_exact(&mut head).is_err() {
             break;
         }
         calls += 1;
         if !play_record(
-            &head, &mut bytes, &mut raw, &mut pairs, &mut want, &mut work, &mut out,
+            &mut input, &head, &mut bytes, &mut raw, &mut pairs, &mut want, &mut work, &mut out,
         ) {
             differ += 1;
         }
     }
-    io::print_decimal(1, calls as u64);
-    io::write_all(1, b" calls, ");
-    io::print_decimal(1, differ as u64);
-    io::write_all(1, b" differ\n");
+    println!(rt; "{calls} calls, {differ} differ")
 }
