@@ -5,7 +5,10 @@ mod call;
 mod examples;
 mod memory;
 
+use anyhow::{Context, Result};
 use cells::u32_at;
+use std::io::Read;
+use std::{fs, io};
 
 // The numbers of a record, as data/README.md names them.
 #[derive(Drop)]
@@ -28,15 +31,15 @@ enum Turn {
 }
 
 // Reads a part of a record; false where it is too long or the list ends before it does.
-fn read_part(fd: i32, buf: &mut [u8], n: usize) -> bool {
+fn read_part(file: &mut impl Read, buf: &mut [u8], n: usize) -> bool {
     if n > buf.len() {
         return false;
     }
-    io::read_full(fd, &mut buf[0..n]) == n
+    file.read_exact(&mut buf[0..n]).is_ok()
 }
 
 // Plays a record whose numbers have been read.
-fn play(fd: i32, r: Record) -> Turn {
+fn play(file: &mut impl Read, r: Record) -> Turn {
     let mut bytes = [0u8; 20000];
     let mut raw = [0u8; 20000];
     let mut answer = [0u8; 20000];
@@ -57,13 +60,13 @@ fn play(fd: i32, r: Record) -> Turn {
     if answered > 20000 {
         return Turn::Broken;
     }
-    if !read_part(fd, &mut bytes, length) {
+    if !read_part(file, &mut bytes, length) {
         return Turn::Broken;
     }
-    if !read_part(fd, &mut raw, 4 * listed) {
+    if !read_part(file, &mut raw, 4 * listed) {
         return Turn::Broken;
     }
-    if !read_part(fd, &mut answer, answered) {
+    if !read_part(file, &mut answer, answered) {
         return Turn::Broken;
     }
     memory::numbers(&raw, &mut list, listed);
@@ -86,9 +89,9 @@ fn play(fd: i32, r: Record) -> Turn {
 }
 
 // Reads the numbers of the next record and plays it.
-fn play_next(fd: i32) -> Turn {
+fn play_next(file: &mut impl Read) -> Turn {
     let mut head = [0u8; 28];
-    if !read_part(fd, &mut head, 28) {
+    if !read_part(file, &mut head, 28) {
         return Turn::Broken;
     }
     let r = Record {
@@ -100,16 +103,16 @@ fn play_next(fd: i32) -> Turn {
         number: u32_at(&head, 20),
         answered: u32_at(&head, 24) as usize,
     };
-    play(fd, r)
+    play(file, r)
 }
 
 // Plays the records that are left, and tells how many differ; a broken list counts as a difference.
-fn play_all(fd: i32, count: u32) -> u32 {
+fn play_all(file: &mut impl Read, count: u32) -> u32 {
     let mut left = count;
     let mut differ = 0;
     while left > 0 {
         left -= 1;
-        match play_next(fd) {
+        match play_next(file) {
             Turn::Same => {}
             Turn::Differs => {
                 differ += 1;
@@ -122,26 +125,16 @@ fn play_all(fd: i32, count: u32) -> u32 {
     differ
 }
 
-fn told(count: u32, what: &[u8], differ: u32) {
-    io::print_decimal(1, count as u64);
-    io::write_all(1, what);
-    io::print_decimal(1, differ as u64);
-    io::write_all(1, b" differ\n");
+fn told(rt: &impl Print, count: u32, what: &str, differ: u32) -> io::Result<()> {
+    println!(rt; "{count} {what}, {differ} differ")
 }
 
-fn main() {
-    let fd = os::open_read(b"calls");
-    if fd < 0 {
-        os::fail(b"calls");
-        return;
-    }
+fn main(rt: HostRuntime) -> Result<()> {
+    let mut file = fs::open(&rt, "calls").context("calls")?;
     let mut head = [0u8; 4];
-    if !read_part(fd, &mut head, 4) {
-        os::fail(b"calls");
-        return;
-    }
+    file.read_exact(&mut head).context("calls")?;
     let count = u32_at(&head, 0);
-    told(count, b" calls, ", play_all(fd, count));
-    libc::close(fd);
-    told(examples::COUNT, b" examples, ", examples::play());
+    told(&rt, count, "calls", play_all(&mut file, count))?;
+    told(&rt, examples::COUNT, "examples", examples::play())?;
+    Ok(())
 }
