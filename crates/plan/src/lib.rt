@@ -20,7 +20,7 @@ use rules::Refusal;
 
 // What is decided for a store before it is written: how many subtables, the region count, how many regions are used, the axes,
 // and the length in bytes.
-#[derive(Drop)]
+#[derive(Clone, Copy)]
 pub struct Layout {
     pub count: usize,
     pub regions: usize,
