@@ -1,10 +1,9 @@
-use Prim.Native.Nat.{◌≤◌, ◌-◌}
 use mathlib.Core.Path.{◌∙◌}
 use native.Mathlib.Omega.{arith}
 use lib.ListN.{length}
 use borrow.Author.Rules.{rules}
 use Rattle.lists.proofs.Parts.{all_laid}
-use Rattle.lists.proofs.Copies.{Copied, copied_none, copied_more, copied_all}
+use Rattle.lists.proofs.Copies.{copied_none, copied_more, copied_all}
 use Rattle.copies.proofs.copy.Goals as goal
 
 pub loop-i-init : goal.loop-i-init

@@ -1,10 +1,6 @@
 use Prim.Native.Nat.{◌≤◌, ◌-◌}
-use mathlib.Core.Path.{◌∙◌}
-use native.Mathlib.Omega.{arith}
 use lib.ListN.{length}
-use borrow.Author.Rules.{rules}
-use Rattle.lists.proofs.Parts.{all_laid}
-use Rattle.lists.proofs.Copies.{Copied, copied_none, copied_more, copied_all}
+use Rattle.lists.proofs.Copies.{Copied}
 use Rattle.copies.proofs.copy.Given as goal
 
 abbrev pub invariant-loop-i : goal.invariant-loop-i

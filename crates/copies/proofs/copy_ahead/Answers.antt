@@ -1,11 +1,10 @@
-use Prim.Native.Nat.{◌+◌, ◌≤◌, ◌-◌}
+use Prim.Native.Nat.{◌+◌}
 use mathlib.Core.Path.{◌∙◌, sym}
 use native.Mathlib.Omega.{arith}
-use lib.ListN.{length}
 use borrow.Rule.Slice.PartMut.{mid_len}
 use borrow.Author.Rules.{rules}
 use borrow.Author.Tests.{not-false}
-use Rattle.lists.proofs.Fronts.{Agreed, agreed_none, agreed_more, agreed_end}
+use Rattle.lists.proofs.Fronts.{agreed_none, agreed_more, agreed_end}
 use Rattle.copies.proofs.copy_ahead.Goals as goal
 
 pub copy-requires : goal.copy-requires

@@ -1,11 +1,6 @@
 use Prim.Native.Nat.{◌+◌, ◌≤◌, ◌-◌}
-use mathlib.Core.Path.{◌∙◌, sym}
-use native.Mathlib.Omega.{arith}
 use lib.ListN.{length}
-use borrow.Rule.Slice.PartMut.{mid_len}
-use borrow.Author.Rules.{rules}
-use borrow.Author.Tests.{not-false}
-use Rattle.lists.proofs.Fronts.{Agreed, agreed_none, agreed_more, agreed_end}
+use Rattle.lists.proofs.Fronts.{Agreed}
 use Rattle.copies.proofs.copy_ahead.Given as goal
 
 abbrev pub invariant-loop-at : goal.invariant-loop-at
