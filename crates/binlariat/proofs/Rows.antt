@@ -25,8 +25,8 @@ module _ (s : List ℕ) (o i : ℕ) where
   row-long {t} u h =
       let f = row_ends u h in simp (add-sub_cancel_left, length-take, length-drop) (omega arith)
 
-  pub row-short : {t : Subtable} → bad_store s ≡ false → Usable s o t → i < t.items → t.row ≡ 0 → RowGiven s o i 0 0 0
-  row-short b u h z =
+  pub row_short : {t : Subtable} → bad_store s ≡ false → Usable s o t → i < t.items → t.row ≡ 0 → RowGiven s o i 0 0 0
+  row_short b u h z =
       let q = parts (sym (row_found s o i b u h)) in
       let l = row-long u h ∙ z in
       record { numbers = q.0; lengths = rw (← q.1, l); starts = rw (← q.1, l) }

@@ -13,9 +13,9 @@ use Rattle.cells.specs.Be.{be, be_bytes, Cell, Wrote}
 
 -- ---- reading
 
-pub cell-one : (s : List ℕ) (at : ℕ) → get_or s at 0 < 256 → Cell 1 s at (get_or s at 0)
+pub cell_one : (s : List ℕ) (at : ℕ) → get_or s at 0 < 256 → Cell 1 s at (get_or s at 0)
 unfolding be
-cell-one s at h = record { is = rw add-zero (omega arith); small = h }
+cell_one s at h = record { is = rw add-zero (omega arith); small = h }
 
 -- two cells side by side are one
 pub be_cat : (a b : ℕ) (s : List ℕ) (at : ℕ) → be (a + b) s at ≡ be a s at * 256 ^ b + be b s (at + a)
@@ -109,8 +109,8 @@ read_in {l} {n} {xs} {i} w k p h f =
     rw p.is (be_ext w (sets l i xs) xs (i + k) k (λ j lt. rw (add_assoc i k j) (sets_in l i xs (k + j) h (omega arith))))
 
 -- the whole of what was written
-pub wrote-all : {l n xs : List ℕ} → Wrote l 0 xs n → length xs ≤ length l → n ≡ xs ++ drop (length xs) l
-wrote-all {l} {xs = xs} p h = p.is ∙ sets-eq xs l 0 (omega arith) ∙ simp zero-add
+pub wrote_all : {l n xs : List ℕ} → Wrote l 0 xs n → length xs ≤ length l → n ≡ xs ++ drop (length xs) l
+wrote_all {l} {xs = xs} p h = p.is ∙ sets-eq xs l 0 (omega arith) ∙ simp zero-add
 
 pub be-be_bytes : (w v : ℕ) (p t : List ℕ) → be w (p ++ (be_bytes w v ++ t)) (length p) ≡ v % 256 ^ w
 unfolding be be_bytes

@@ -75,16 +75,16 @@ wrap : (q m n : ℕ) → n < m → (suc q * m - suc n) % m ≡ m - suc n
 wrap q m n h =
     let e : suc q * m - suc n ≡ q * m + (m - suc n) = rw suc-mul (omega arith) in rw e (digits_mod q (omega arith))
 
-pub sign-bits : (q h : ℕ) (z : ℤ) → 2 ^ 32 ≡ suc q * (h + h) → mag z < h → sign h (of_z w32 z % (h + h)) ≡ z
-sign-bits q h (pos n) e l = rw (mod-eq_of_lt {n = n} {m = h + h} (omega arith)) (sign_low h n l)
-sign-bits q h (negsuc n) e l =
+pub sign_bits : (q h : ℕ) (z : ℤ) → 2 ^ 32 ≡ suc q * (h + h) → mag z < h → sign h (of_z w32 z % (h + h)) ≡ z
+sign_bits q h (pos n) e l = rw (mod-eq_of_lt {n = n} {m = h + h} (omega arith)) (sign_low h n l)
+sign_bits q h (negsuc n) e l =
     rw (e, wrap q (h + h) n (omega arith)) (sign_high h (h + h - suc n) (omega arith) ∙ ap negsuc (omega arith))
 
 -- ---- a cell of any size
 
-pub cell-is : (w : ℕ) {v u : ℕ} {s : List ℕ} {at : ℕ} {z : ℤ} → mag z < 2 ^ 31 → z ≡ sign (256 ^ w / 2) u
+pub cell_is : (w : ℕ) {v u : ℕ} {s : List ℕ} {at : ℕ} {z : ℤ} → mag z < 2 ^ 31 → z ≡ sign (256 ^ w / 2) u
     → Cell w s at u → v ≡ w → to_z w32 (of_z w32 z) ≡ signed_at v s at
-cell-is w f e p q = to_z-of_z {w = w32} (record { sfits = f }) ∙ e ∙ rw (q, p.is)
+cell_is w f e p q = to_z-of_z {w = w32} (record { sfits = f }) ∙ e ∙ rw (q, p.is)
 
 -- a signed argument reaches a callee by its bits, so what the callee ensures speaks of `to_z w32 (of_z w32 z)`
 pub put_is : (w : ℕ) {v u at : ℕ} {z : ℤ} {l n : List ℕ} → SFits w32 z → Wrote l at (be_bytes w u) n
@@ -94,10 +94,10 @@ put_is w f p e q = rw (q, ← (e ∙ ap (of_z w32) (to_z-of_z f))) p
 -- z, in w bytes that hold it, comes back
 pub sign_back : (w : ℕ) (z : ℤ) → Size w → mag z < 256 ^ w / 2 → sign (256 ^ w / 2) (of_z w32 z % 256 ^ w) ≡ z
 sign_back zero z s = absurd (omega arith)
-sign_back (suc zero) z s = sign-bits 16777215 128 z refl
-sign_back (suc (suc zero)) z s = sign-bits 65535 32768 z refl
+sign_back (suc zero) z s = sign_bits 16777215 128 z refl
+sign_back (suc (suc zero)) z s = sign_bits 65535 32768 z refl
 sign_back (suc (suc (suc zero))) z s = absurd (s.even refl)
-sign_back (suc (suc (suc (suc zero)))) z s = sign-bits 0 2147483648 z refl
+sign_back (suc (suc (suc (suc zero)))) z s = sign_bits 0 2147483648 z refl
 sign_back (suc (suc (suc (suc (suc w))))) z s = absurd (omega arith)
 
 -- from where it was written

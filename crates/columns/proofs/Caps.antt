@@ -18,9 +18,9 @@ use Rattle.laws.specs.Sizes.{size, sizes, column_size}
 use Rattle.laws.specs.Long.{sign_small}
 
 -- of one number
-size-most : (z : ℤ) → size z ≤ 4
+size_most : (z : ℤ) → size z ≤ 4
 unfolding size
-size-most z = by (outside 65535 z) (outside 32767 z) (outside 127 z) (nil z)
+size_most z = by (outside 65535 z) (outside 32767 z) (outside 127 z) (nil z)
   where
     by : (a b c d : Bool) → pick a 4 (pick b 3 (pick c 2 (pick d 0 1))) ≤ 4
     by true b c d = omega arith
@@ -45,7 +45,7 @@ cell_capped is_long words c s at = by (ltb c words) is_long
     short = size_within 2 32767 (signed_at 2 s at) (sizes (signed_at 2 s at)).1 (sign_small 32768 (be 2 s at) (omega arith))
 
     by : (b is_long : Bool) → let w : ℕ = pick b (word_size is_long) (rest_size is_long) in size (signed_at w s at) ≤ w
-    by true true = size-most (signed_at 4 s at)
+    by true true = size_most (signed_at 4 s at)
     by true false = short
     by false true = short
     by false false = size_within 1 127 (signed_at 1 s at) (sizes (signed_at 1 s at)).2 (sign_small 128 (be 1 s at) (omega arith))

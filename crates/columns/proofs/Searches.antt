@@ -13,7 +13,7 @@ use Rattle.cells.specs.Sign.{outside}
 use Rattle.opentype.specs.Subtable.{word_count, column_count, delta}
 use Rattle.rules.specs.Lists.{inner}
 use Rattle.rules.specs.Columns.{kept_deltas, keeps_long}
-use Rattle.laws.specs.Long.{long-words}
+use Rattle.laws.specs.Long.{long_words}
 use Rattle.readers.specs.Opened.{Opened}
 use Rattle.readers.specs.declared.subtable.Subtable.{Subtable}
 
@@ -51,8 +51,8 @@ module _ {s : List ℕ} {t : Subtable} (o : Opened s t) (pairs : List ℕ) where
   unfolding keeps_long
   not-long e = rw (← o.long, e)
 
-  pub by-words : t.long ≡ true → (b : Bool) → some (far_in s t.at pairs) t.words ≡ b → b ≡ keeps_long s t.at (map (λ p. inner p) pairs)
+  pub by_words : t.long ≡ true → (b : Bool) → some (far_in s t.at pairs) t.words ≡ b → b ≡ keeps_long s t.at (map (λ p. inner p) pairs)
   unfolding far_in
-  by-words e b f =
+  by_words e b f =
       let h : word_count s t.at ≤ column_count s t.at = omega (arith, o.words, o.columns, o.order) in
-      rw (long-words s t.at (map (λ p. inner p) pairs) h, ← o.long, e, ← o.words) (sym f)
+      rw (long_words s t.at (map (λ p. inner p) pairs) h, ← o.long, e, ← o.words) (sym f)

@@ -10,11 +10,11 @@ use lib.ListN.{length, length-append}
 use lib.Dec.{eqb}
 use Rattle.lists.specs.Pick.{pick}
 use Rattle.lists.specs.Gather.{gather, flat, tab}
-use Rattle.lists.proofs.Pieces.{gather_none, gather-more, gather-length}
+use Rattle.lists.proofs.Pieces.{gather_none, gather_more, gather-length}
 use Rattle.lists.proofs.Tabs.{gather-tab}
 use Rattle.lists.proofs.Parts.{all_laid}
 use Rattle.cells.specs.Be.{be_bytes, Wrote}
-use Rattle.cells.proofs.Cells.{length-be_bytes, wrote_cat, wrote-all}
+use Rattle.cells.proofs.Cells.{length-be_bytes, wrote_cat, wrote_all}
 use Rattle.rules.specs.TableCut.{map_offsets}
 use Rattle.maps.specs.declared.MapPlan.{MapPlan}
 use Rattle.maps.specs.Plans.{length_of}
@@ -37,16 +37,16 @@ pub offsets_none : (plans : List MapPlan) (first : ℕ) (old : List ℕ) → Off
 unfolding lengths
 offsets_none plans first old = record { place = omega arith; short = omega arith; wrote = record { is = rw gather_none } }
 
-pub offsets-more : {plans : List MapPlan} {first : ℕ} {old : List ℕ} {k at : ℕ} {out out' : List ℕ} {v n : ℕ} → Offsets plans first old k at out
+pub offsets_more : {plans : List MapPlan} {first : ℕ} {old : List ℕ} {k at : ℕ} {out out' : List ℕ} {v n : ℕ} → Offsets plans first old k at out
     → Wrote out (4 * k) (be_bytes 4 v) out' → v ≡ pick (plan_at plans k).written at 0 → n ≡ length_of (plan_at plans k) → n ≤ 393214
     → Offsets plans first old (k + 1) (at + n) out'
 unfolding lengths
-offsets-more {plans} {first} {k = k} done w v l small =
+offsets_more {plans} {first} {k = k} done w v l small =
     let e = length-offsets plans first k in
     record {
       place = rw add-one (omega (arith, done.place));
       short = rw add-one (omega (arith, done.short));
-      wrote = rw gather-more (wrote_cat done.wrote (rw (v, done.place) at w) (omega arith));
+      wrote = rw gather_more (wrote_cat done.wrote (rw (v, done.place) at w) (omega arith));
     }
 
 pub offsets_end : {plans : List MapPlan} {first : ℕ} {old : List ℕ} {k at : ℕ} {out : List ℕ} (maps : ℕ) → Offsets plans first old k at out → k ≡ maps
@@ -54,18 +54,18 @@ pub offsets_end : {plans : List MapPlan} {first : ℕ} {old : List ℕ} {k at : 
 offsets_end {plans} {first} {old} maps done e l =
     let bytes = gather (λ m. offset_at plans first m) maps in
     let n : length bytes ≡ maps * 4 = length-offsets plans first maps in
-    wrote-all (rw e at done.wrote) (omega arith) ∙ all_laid bytes old (length bytes) (omega arith)
+    wrote_all (rw e at done.wrote) (omega arith) ∙ all_laid bytes old (length bytes) (omega arith)
 
 -- ---- the rules
 
 -- one more map, behind the others
-offsets-behind : (at : ℕ) (parts : List (List ℕ)) (part : List ℕ)
+offsets_behind : (at : ℕ) (parts : List (List ℕ)) (part : List ℕ)
     → map_offsets at (parts ++ part ∷ []) ≡ map_offsets at parts ++ be_bytes 4 (pick (eqb (length part) 0) 0 (at + length (flat (λ p. p) parts)))
 unfolding map_offsets flat
-offsets-behind at [] part = simp (append-nil, add-zero)
-offsets-behind at (x ∷ xs) part =
+offsets_behind at [] part = simp (append-nil, add-zero)
+offsets_behind at (x ∷ xs) part =
     let e : at + length x + length (flat (λ p. p) xs) ≡ at + length (x ++ flat (λ p. p) xs) = rw length-append (omega arith) in
-    rw (offsets-behind (at + length x) xs part, append_assoc, e)
+    rw (offsets_behind (at + length x) xs part, append_assoc, e)
 
 module _ {maps : ℕ} {t es : List ℕ} {plans : List MapPlan} {wide : Bool} {total n : ℕ} (h : MapsPlanned maps t es plans wide total n) where
   lengths_are : (k : ℕ) → k ≤ n → lengths plans k ≡ length (gather (λ m. part_at maps t es m) k)
@@ -78,4 +78,4 @@ module _ {maps : ℕ} {t es : List ℕ} {plans : List MapPlan} {wide : Bool} {to
   offsets_up_to first zero l = refl
   offsets_up_to first (suc k) l =
       rw (offsets_up_to first k (omega arith), ← plan_offset (h.each k l), lengths_are k (omega arith), gather-tab (λ part. part) (λ m. part_at maps t es m))
-      (sym (offsets-behind first (tab (λ m. part_at maps t es m) k) (part_at maps t es k)))
+      (sym (offsets_behind first (tab (λ m. part_at maps t es m) k) (part_at maps t es k)))

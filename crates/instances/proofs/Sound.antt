@@ -69,9 +69,9 @@ glyphs_pass {maps} {t} {es} {u} kept sums =
     both_of (eqb (axis_count (store_of u)) (axis_count (store_of t))) _ (eq-eqb _ _ kept.axes)
     (every_of _ maps (λ m h. where_holds (gives_pairs t m) _ (λ g. every_of _ (length es) (λ n l. is_same _ _ (sums weigh m n (record { known = h; gives = g; inside = l }))))))
 
-pub shortest-passes : (s pairs w : List ℕ) → ShortestRows s pairs w → (k : ℕ) → k < length pairs → (f : Form) → not_longer s pairs w k f ≡ true
+pub shortest_passes : (s pairs w : List ℕ) → ShortestRows s pairs w → (k : ℕ) → k < length pairs → (f : Form) → not_longer s pairs w k f ≡ true
 unfolding not_longer ShortestRows
-shortest-passes s pairs w short k h f =
+shortest_passes s pairs w short k h f =
     let o = outer_at pairs k in
     let told : ℕ → Bool = λ j. every (λ c. tells f c (delta_in s o (inner_at pairs j) c)) (columns_in s o) in
     where_holds (every (λ j. pick (eqb (outer_at pairs j) o) (told j) true) (length pairs)) _ (λ all.
@@ -93,9 +93,9 @@ bits_pass {maps} {t} {es} {u} few =
     le-leb _ _ ((few.bits m h there.0 (omega (arith, some))).fewest (suc b) (omega arith)
     (λ n k. ltb-true _ _ (every_at (λ i. ltb (glyph_inner u m (new_at es i)) (2 ^ suc b)) (length es) n enough k)))))))
 
-lean-passes : {w : List ℕ} → Lean w → is_lean w ≡ true
+lean_passes : {w : List ℕ} → Lean w → is_lean w ≡ true
 unfolding is_lean
-lean-passes {w} lean =
+lean_passes {w} lean =
     both_of _ _
     (every_of _ (subtable_count w) (λ o h. both_of _ _ (differ_yes (item_count w (subtable_at w o)) 0 (λ e. omega (arith, lean.subtables o h, e)))
     (every_of _ (columns_in w o) (λ c l. let r = lean.columns o c h l in
@@ -107,7 +107,7 @@ lean-passes {w} lean =
 pub trace_passes : {s pairs w : List ℕ} → NoTrace s pairs w → traceless s pairs w ≡ true
 unfolding traceless
 trace_passes {s} {pairs} {w} none =
-    both_of (is_lean w) _ (lean-passes none.lean)
+    both_of (is_lean w) _ (lean_passes none.lean)
     (every_of _ (subtable_count w) (λ o h. every_of _ (item_count w (subtable_at w o)) (λ i l.
     let p = none.rows o i h l in
     some_at (λ k. both (eqb (outers_before pairs (outer_at pairs k)) o) (eqb (pairs_of (take k pairs) (outer_at pairs k)) i)) p.place (length pairs) p.inside
@@ -116,7 +116,7 @@ trace_passes {s} {pairs} {w} none =
 pub table_trace_passes : {maps : ℕ} {t es u : List ℕ} → NoTraceInTable maps t es u → traceless_table maps t es u ≡ true
 unfolding traceless_table
 table_trace_passes {maps} {t} {es} {u} none =
-    both_of (is_lean (store_of u)) _ (lean-passes none.lean)
+    both_of (is_lean (store_of u)) _ (lean_passes none.lean)
     (every_of _ (subtable_count (store_of u)) (λ o h. every_of _ (item_count (store_of u) (subtable_at (store_of u) o)) (λ i l.
     let g = none.rows o i h l in
     some_at (λ m. both (gives_pairs t m) (some (λ n. both (eqb (glyph_outer u m (new_at es n)) o) (eqb (glyph_inner u m (new_at es n)) i)) (length es))) g.map maps g.listed.known

@@ -4,12 +4,12 @@ use Rattle.demands.specs.KeepsGlyphs.{KeptTable, KeptGlyphSums}
 use Rattle.demands.specs.NoTrace.{NoTrace, NoTraceInTable}
 use Rattle.demands.specs.Calls.{Varies, OfStoreCalls, OfHvarCalls, OfVvarCalls}
 use Rattle.reread.proofs.Calls.{of_store_calls, of_hvar_calls, of_vvar_calls}
-use Rattle.keeps.proofs.Stores.{keeps-store, keeps_sums}
+use Rattle.keeps.proofs.Stores.{keeps_store, keeps_sums}
 use Rattle.keeps.proofs.Glyphs.{keeps_table, keeps_glyph_sums}
 use Rattle.keeps.proofs.Traces.{no_trace, no_trace_in_table}
 
 pub cut_store_keeps : OfStoreCalls KeptStore
-cut_store_keeps = of_store_calls KeptStore keeps-store
+cut_store_keeps = of_store_calls KeptStore keeps_store
 
 pub cut_store_keeps_sums : OfStoreCalls KeptSums
 cut_store_keeps_sums = of_store_calls KeptSums keeps_sums

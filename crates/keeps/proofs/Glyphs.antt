@@ -12,14 +12,14 @@ use Rattle.rules.specs.Columns.{order}
 use Rattle.rules.specs.Numbering.{present, counts, pair_of, kept_pairs, new_outer, new_inner}
 use Rattle.laws.specs.Runs.{run_at}
 use Rattle.laws.specs.Outers.{Moved, moved}
-use Rattle.laws.specs.Kept.{kept-member, kept-climbs}
-use Rattle.laws.specs.GlyphPairs.{present-there, absent_null, glyph_there, glyph_parts}
+use Rattle.laws.specs.Kept.{kept_member, kept_climbs}
+use Rattle.laws.specs.GlyphPairs.{present_there, absent_null, glyph_there, glyph_parts}
 use Rattle.demands.specs.KeepsGlyphs.{Listed, KeptGlyph, KeptTable, KeptGlyphSums, old_at, new_at}
 use Rattle.demands.specs.Calls.{Varies, OfTableCuts}
 use Rattle.reread.proofs.Written.{plan_for}
-use Rattle.reread.proofs.Keeps.{RunsKept, runs-kept, row_as, columns_as}
+use Rattle.reread.proofs.Keeps.{RunsKept, runs_kept, row_as, columns_as}
 use Rattle.remapped.proofs.Cut.{table_cut}
-use Rattle.remapped.proofs.Short.{store-cut}
+use Rattle.remapped.proofs.Short.{store_cut}
 use Rattle.remapped.proofs.Written.{ReadMap, table_read}
 use Rattle.keeps.proofs.Follows.{sums_kept}
 
@@ -32,14 +32,14 @@ module _ (maps : ℕ) (t es u : List ℕ) (few : 0 < maps) (kept : RunsKept (sto
       let p = pair_of t m (old_at es n) in
       let o = new_outer rs p in
       let row : Moved rs p (record { outer = 0; inners = [] })
-      = moved 0 (kept_pairs maps t es) (kept-climbs maps t es few) p (kept-member maps t es m n is.known is.gives is.inside) (record { outer = 0; inners = [] }) in
+      = moved 0 (kept_pairs maps t es) (kept_climbs maps t es few) p (kept_member maps t es m n is.known is.gives is.inside) (record { outer = 0; inners = [] }) in
       let was = glyph_parts t m (get_or es n 0) in
       let now = glyph_there u m (new_at es n) read.there in
       let outers : glyph_outer u m (new_at es n) ≡ o = now.0 ∙ read.outers n is.inside in
       let inners : glyph_inner u m (new_at es n) ≡ new_inner rs p = now.1 ∙ read.inners n is.inside in
       let run = kept.each o row.outer_in in
       record {
-        there = present-there u m read.there;
+        there = present_there u m read.there;
         sound = read.laid.sound;
         inside = rw (outers, kept.count) row.outer_in;
         from = order (plan_for (store_of t) (run_at rs o));
@@ -53,7 +53,7 @@ keeps_table maps t es u three bytes has cut =
     let few : 0 < maps = omega (arith, three.low) in
     let done = table_cut maps t es u cut has.store in
     let read = table_read maps t es u few three.high bytes done in
-    let kept = runs-kept (store-cut maps t es u few three.high bytes done has.regions) read.stands in
+    let kept = runs_kept (store_cut maps t es u few three.high bytes done has.regions) read.stands in
     record {
       header = read.header;
       store = read.store;

@@ -13,16 +13,16 @@ use Rattle.demands.specs.KeepsStore.{KeptSubtable, KeptStore, KeptSums, outers_b
 use Rattle.demands.specs.Calls.{OfStoreCuts}
 use Rattle.reread.proofs.Accepted.{Accepted, store_accepted}
 use Rattle.reread.proofs.Written.{plan_for}
-use Rattle.reread.proofs.Places.{has_at, runs-count, run_of}
-use Rattle.reread.proofs.Keeps.{outers-inside, runs-kept, row_as, columns_as}
+use Rattle.reread.proofs.Places.{has_at, runs_count, run_of}
+use Rattle.reread.proofs.Keeps.{outers_inside, runs_kept, row_as, columns_as}
 use Rattle.keeps.proofs.Follows.{sums_kept}
 
 module _ {s pairs st w : List ℕ} (ok : Accepted s pairs st) (laid : Stands w 0 st) where
   kept_subtable : (k : ℕ) → k < length pairs → KeptSubtable s pairs w (outer_at pairs k)
   kept_subtable k h =
       let o = outer_at pairs k in
-      let run = run_of pairs (accepted_climbs pairs ok.rise) (subtable_count s) (outers-inside ok) o (has_at pairs k h) in
-      let kept = (runs-kept ok laid).each (outers_before pairs o) run.inside in
+      let run = run_of pairs (accepted_climbs pairs ok.rise) (subtable_count s) (outers_inside ok) o (has_at pairs k h) in
+      let kept = (runs_kept ok laid).each (outers_before pairs o) run.inside in
       let is = sym run.outers in
       record {
         old = order (plan_for s (run_at (runs pairs) (outers_before pairs o)));
@@ -33,20 +33,20 @@ module _ {s pairs st w : List ℕ} (ok : Accepted s pairs st) (laid : Stands w 0
 
   pub kept_store : KeptStore s pairs w
   kept_store =
-      let kept = runs-kept ok laid in
+      let kept = runs_kept ok laid in
       record {
         readable = kept.readable;
         axes = kept.axes;
-        count = kept.count ∙ runs-count pairs (accepted_climbs pairs ok.rise) (subtable_count s) (outers-inside ok);
+        count = kept.count ∙ runs_count pairs (accepted_climbs pairs ok.rise) (subtable_count s) (outers_inside ok);
         subtables = kept_subtable;
       }
 
-pub keeps-store : OfStoreCuts KeptStore
+pub keeps_store : OfStoreCuts KeptStore
 unfolding OfStoreCuts
-keeps-store s pairs w keep_empty bytes has cut = kept_store (store_accepted s pairs w keep_empty bytes cut has.regions) (stands_all w)
+keeps_store s pairs w keep_empty bytes has cut = kept_store (store_accepted s pairs w keep_empty bytes cut has.regions) (stands_all w)
 
 pub keeps_sums : OfStoreCuts KeptSums
 unfolding OfStoreCuts KeptSums
 keeps_sums s pairs w keep_empty bytes has cut weigh k h =
-    let kept = (keeps-store s pairs w keep_empty bytes has cut).subtables k h in
+    let kept = (keeps_store s pairs w keep_empty bytes has cut).subtables k h in
     sums_kept kept.columns (kept.rows k h refl) weigh

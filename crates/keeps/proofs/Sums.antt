@@ -56,16 +56,16 @@ sum_out f x (suc n) h = ⊎_elim (λ q. last q) (λ l. before l (sum_out f x n l
         ∙ ap (λ (z : ℤ). f x +ℤ (sum (λ b. off f x b) n +ℤ z)) (sym (off_other f x n (λ q. omega arith))))
 
 -- a list of different numbers below n that leaves out only numbers with term 0
-pub sum-list : (f : ℕ → ℤ) (xs : List ℕ) (n : ℕ)
+pub sum_list : (f : ℕ → ℤ) (xs : List ℕ) (n : ℕ)
     → ((c : ℕ) → c < length xs → get_or xs c 0 < n)
     → ((c d : ℕ) → c < length xs → d < length xs → get_or xs c 0 ≡ get_or xs d 0 → c ≡ d)
     → ((b : ℕ) → b < n → ((c : ℕ) → c < length xs → get_or xs c 0 ≡ b → ⊥) → f b ≡ pos 0)
     → sum (λ c. f (get_or xs c 0)) (length xs) ≡ sum f n
-sum-list f [] n i o z = sum_zero (λ c. f 0) 0 (λ c l. absurd (not-suc-le-zero l)) ∙ sym (sum_zero f n (λ b l. z b l (λ c m. absurd (not-suc-le-zero m))))
-sum-list f (x ∷ xs) n i o z =
+sum_list f [] n i o z = sum_zero (λ c. f 0) 0 (λ c l. absurd (not-suc-le-zero l)) ∙ sym (sum_zero f n (λ b l. z b l (λ c m. absurd (not-suc-le-zero m))))
+sum_list f (x ∷ xs) n i o z =
     sum_first (λ c. f (get_or (x ∷ xs) c 0)) (length xs)
     ∙ (ap (λ (y : ℤ). f x +ℤ y) (sum_same (λ c. f (get_or xs c 0)) (λ c. off f x (get_or xs c 0)) (length xs) (λ c l. sym (off_other f x (get_or xs c 0) (apart c l)))
-    ∙ sum-list (λ b. off f x b) xs n (λ c l. i (suc c) (omega arith)) (λ c d l m e. let q = o (suc c) (suc d) (omega arith) (omega arith) e in omega arith) rest)
+    ∙ sum_list (λ b. off f x b) xs n (λ c l. i (suc c) (omega arith)) (λ c d l m e. let q = o (suc c) (suc d) (omega arith) (omega arith) e in omega arith) rest)
     ∙ sym (sum_out f x n (i 0 (omega arith))))
   where
     apart : (c : ℕ) → c < length xs → get_or xs c 0 ≡ x → ⊥

@@ -24,16 +24,16 @@ use Rattle.laws.specs.Entries.{entry_found}
 use Rattle.laws.specs.Packed.{Packed, map-length}
 
 -- the entry format comes apart
-format-bits : (bits size : ℕ) → 1 ≤ bits → bits ≤ 16 → ((size - 1) * 16 + (bits - 1)) % 16 + 1 ≡ bits
-format-bits bits size a b = rw (digits_mod (size - 1) {m = 16} {r = bits - 1} (omega arith)) (omega arith)
+format_bits : (bits size : ℕ) → 1 ≤ bits → bits ≤ 16 → ((size - 1) * 16 + (bits - 1)) % 16 + 1 ≡ bits
+format_bits bits size a b = rw (digits_mod (size - 1) {m = 16} {r = bits - 1} (omega arith)) (omega arith)
 
-format-bytes : (bits size : ℕ) → 1 ≤ bits → bits ≤ 16 → 1 ≤ size → size ≤ 4 → ((size - 1) * 16 + (bits - 1)) / 16 % 4 + 1 ≡ size
-format-bytes bits size a b c d = rw (digits_div (size - 1) {m = 16} {r = bits - 1} (omega arith), mod-eq_of_lt {n = size - 1} {m = 4} (omega arith)) (omega arith)
+format_bytes : (bits size : ℕ) → 1 ≤ bits → bits ≤ 16 → 1 ≤ size → size ≤ 4 → ((size - 1) * 16 + (bits - 1)) / 16 % 4 + 1 ≡ size
+format_bytes bits size a b c d = rw (digits_div (size - 1) {m = 16} {r = bits - 1} (omega arith), mod-eq_of_lt {n = size - 1} {m = 4} (omega arith)) (omega arith)
 
-good-map : (u : List ℕ) (at : ℕ) → at + 2 ≤ length u → map_format u at ≤ 1 → inner_bits u at ≤ 8 * entry_bytes u at → at + map_head u at ≤ length u
+good_map : (u : List ℕ) (at : ℕ) → at + 2 ≤ length u → map_format u at ≤ 1 → inner_bits u at ≤ 8 * entry_bytes u at → at + map_head u at ≤ length u
     → 0 < map_count u at → at + map_head u at + map_count u at * entry_bytes u at ≤ length u → bad_map u at ≡ false
 unfolding bad_map
-good-map u at a f b h c l =
+good_map u at a f b h c l =
     rw (
       le-ltb (length u) (at + 2) a,
       le-ltb 1 (map_format u at) f,
@@ -70,8 +70,8 @@ laid_map {u} {at} t rs es m p fits most s =
     let e : be 1 u (at + 1) ≡ packs = be_back 1 packs small (stands_at (rw length-be_bytes) (stands_right format packed s2)) in
     let n : be 2 u (at + 2) ≡ p.count
     = be_back 2 p.count (omega (arith, fits.few_entries)) (stands_at (simp (length-append, length-be_bytes)) (stands_right (format ++ packed) count s1)) in
-    let bits : inner_bits u at ≡ p.inner_bits = rw e (format-bits p.inner_bits size fits.some_bits fits.few_bits) in
-    let bytes : entry_bytes u at ≡ size = rw e (format-bytes p.inner_bits size fits.some_bits fits.few_bits fits.some_bytes most) in
+    let bits : inner_bits u at ≡ p.inner_bits = rw e (format_bits p.inner_bits size fits.some_bits fits.few_bits) in
+    let bytes : entry_bytes u at ≡ size = rw e (format_bytes p.inner_bits size fits.some_bits fits.few_bits fits.some_bytes most) in
     let head : map_head u at ≡ 4 = rw f in
     let entries : map_count u at ≡ p.count = rw f n in
     let inside : at + (4 + p.count * size) ≤ length u = rw (map-length t rs es m p) at s.inside in
@@ -80,7 +80,7 @@ laid_map {u} {at} t rs es m p fits most s =
       bytes = bytes;
       head = head;
       count = entries;
-      sound = good-map u at (omega arith) (rw f (omega arith)) (rw (bits, bytes) fits.inside) (rw head (omega arith)) (rw entries fits.some_entries) (rw (head, entries, bytes) (omega arith));
+      sound = good_map u at (omega arith) (rw f (omega arith)) (rw (bits, bytes) fits.inside) (rw head (omega arith)) (rw entries fits.some_entries) (rw (head, entries, bytes) (omega arith));
       entries = λ j l. be_stands size _ (stands_gather piece size (λ k. length-be_bytes size _) j p.count l
           (stands_at (simp (length-append, length-be_bytes)) (stands_right (format ++ packed ++ count) (gather piece p.count) s)));
     }

@@ -72,10 +72,10 @@ word_field_lem true n h = (le-leb 0x8000 (0x8000 + n) (omega arith), add-mod_lef
 word_field_lem false n h = rw (zero-add n) (lt-leb 0x8000 n h, mod-eq_of_lt h, omega arith)
 
 -- the delta of an item and a column that are there, by the row's place r
-delta-there : {l : Bool} {n m items r : ℕ} (w : List ℕ) (to j c : ℕ) → item_count w to ≡ items → j < items → column_count w to ≡ n → c < n
+delta_there : {l : Bool} {n m items r : ℕ} (w : List ℕ) (to j c : ℕ) → item_count w to ≡ items → j < items → column_count w to ≡ n → c < n
     → long w to ≡ l → word_count w to ≡ m → row_at w to j ≡ r → delta w to j c ≡ signed_at (cell_size l m c) w (r + cell_at l m c)
 unfolding delta cell
-delta-there {n = n} {items = items} w to j c e h f g is_long words place = rw (e, lt-leb items j h, f, lt-leb n c g, is_long, words, place)
+delta_there {n = n} {items = items} w to j c e h f g is_long words place = rw (e, lt-leb items j h, f, lt-leb n c g, is_long, words, place)
 
 -- What is read of a subtable that stands at the place to of w.
 pub record LaidSubtable (s : List ℕ) (at : ℕ) (used is : List ℕ) (p : Plan) (w : List ℕ) (to : ℕ) : Type 0 where
@@ -129,6 +129,6 @@ laid_subtable {w} {to} s at used is p few narrow small fits st =
       inside = rw (items, row_len, columns) (omega (arith, rows.inside));
       indexes = λ k h. be_back 2 _ (small k h) (stands_at (omega arith) (stands_piece index 0 (order p) 2 k sizes indexes h));
       deltas = λ j k h l.
-          delta-there w to j k items h columns l is_long words (rw (row_len, columns))
+          delta_there w to j k items h columns l is_long words (rw (row_len, columns))
           ∙ row-cell s at p (get_or is j 0) k l (fits j h) (stands_piece row 0 is len j (λ i g. length-row s at p (get_or is i 0)) rows h);
     }

@@ -66,9 +66,9 @@ part_stands {u} cell from (part ∷ parts) (suc k) h o s =
     }
 
 -- the offset fits its cell
-part-there : {u : List ℕ} {cell from to : ℕ} {part : List ℕ} → Part u cell from to part → to < 256 ^ 4 → 0 < length part
+part_there : {u : List ℕ} {cell from to : ℕ} {part : List ℕ} → Part u cell from to part → to < 256 ^ 4 → 0 < length part
     → Stands u (be 4 u cell) part × (from ≤ be 4 u cell)
-part-there {u} {cell} {part = part} p h l =
+part_there {u} {cell} {part = part} p h l =
     let o = rw (ne_eqb (length part) 0 (λ q. omega arith)) at p.offset in
     let e : be 4 u cell ≡ p.place = be_back 4 p.place (omega (arith, p.up_to)) o in
     (rw e p.stands, rw e p.from_on)
@@ -121,6 +121,6 @@ laid_table maps t st parts good n small =
           (ap (λ (k : ℕ). differ k 1) major ∙ checks.1);
       there = λ e. omega (arith, there, e);
       store = rw there (stands_drop (stands_at at_store (stands_right (version ++ place ++ array) st s1)));
-      map = λ m h l. let p = part-there (part m h) small l in (differ_yes (be 4 u (8 + 4 * m)) 0 (λ e. omega (arith, p.1)), p.0);
+      map = λ m h l. let p = part_there (part m h) small l in (differ_yes (be 4 u (8 + 4 * m)) 0 (λ e. omega (arith, p.1)), p.0);
       absent = λ m h l. differ_no (be 4 u (8 + 4 * m)) 0 (part_absent (part m h) l);
     }

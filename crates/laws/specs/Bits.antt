@@ -8,14 +8,14 @@ use Rattle.std.proofs.Math.Pow.{pow_mono}
 use Rattle.std.specs.Int.Count.{count_leading_zeros, leading_length}
 use Rattle.rules.specs.Maps.{bit_length, bits_for}
 
-pub bits-some : (n : ℕ) → 1 ≤ bits_for n
+pub bits_some : (n : ℕ) → 1 ≤ bits_for n
 unfolding bits_for
-bits-some n = omega arith
+bits_some n = omega arith
 
 module _ (n : ℕ) (h : n < 2 ^ 32) where
-  pub bits-hold : n < 2 ^ bits_for n
+  pub bits_hold : n < 2 ^ bits_for n
   unfolding bits_for bit_length
-  bits-hold = let l = leading_length 32 n h in lt_of_lt_of_le l.2 (pow_mono {i = l.0} {j = max 1 (32 - count_leading_zeros 32 n)} (omega arith))
+  bits_hold = let l = leading_length 32 n h in lt_of_lt_of_le l.2 (pow_mono {i = l.0} {j = max 1 (32 - count_leading_zeros 32 n)} (omega arith))
 
   pub bits_least : (d : ℕ) → 1 ≤ d → n < 2 ^ d → bits_for n ≤ d
   unfolding bits_for bit_length
@@ -27,5 +27,5 @@ module _ (n : ℕ) (h : n < 2 ^ 32) where
       ]
 
 -- a larger number takes no fewer
-pub bits-climb : (a b : ℕ) → a ≤ b → b < 2 ^ 32 → bits_for a ≤ bits_for b
-bits-climb a b h l = bits_least a (lt_of_le_of_lt h l) (bits_for b) (bits-some b) (lt_of_le_of_lt h (bits-hold b l))
+pub bits_climb : (a b : ℕ) → a ≤ b → b < 2 ^ 32 → bits_for a ≤ bits_for b
+bits_climb a b h l = bits_least a (lt_of_le_of_lt h l) (bits_for b) (bits_some b) (lt_of_le_of_lt h (bits_hold b l))

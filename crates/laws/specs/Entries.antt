@@ -44,10 +44,10 @@ here j k x y e = rw (eq-eqb j k e)
 behind : (j k x y : ℕ) → (j ≡ k → ⊥) → pick (eqb j k) x y ≡ y
 behind j k x y e = rw (ne_eqb j k e)
 
-some-behind : (f : ℕ → Bool) (es : List ℕ) → all f es ≡ false → 0 < length es
+some_behind : (f : ℕ → Bool) (es : List ℕ) → all f es ≡ false → 0 < length es
 unfolding all
-some-behind f [] h = absurd (true≢false h)
-some-behind f (e ∷ es) h = omega arith
+some_behind f [] h = absurd (true≢false h)
+some_behind f (e ∷ es) h = omega arith
 
 -- With ids past the count reading the last entry.
 pub entry_found : (pair entry : ℕ → ℕ) (b : ℕ) (es : List ℕ) → Rises b (map (λ e. new_id e) es) → (n : ℕ) → n < length es
@@ -64,7 +64,7 @@ entry_found pair entry b (e ∷ es) r n h =
 
     -- the count is that of the entries behind, which are not all alike
     later : all (λ c. eqb (pair (old_id e)) (pair (old_id c))) es ≡ false → new_id e < count_of pair es - 1
-    later a = omega (arith, count_past pair (suc (new_id e)) es r.1 (some-behind _ es a))
+    later a = omega (arith, count_past pair (suc (new_id e)) es r.1 (some_behind _ es a))
 
     by : (t : Bool) → all (λ c. eqb (pair (old_id e)) (pair (old_id c))) es ≡ t → (n : ℕ) → n < length (e ∷ es)
         → ((k : ℕ) → k < length es

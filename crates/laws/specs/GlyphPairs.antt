@@ -19,27 +19,27 @@ not_false true h = refl
 not_false false h = absurd (true≢false h)
 
 -- bytes in bits
-pub pow-bytes : (n : ℕ) → 256 ^ n ≡ 2 ^ (8 * n)
-pow-bytes zero = refl
-pow-bytes (suc n) =
+pub pow_bytes : (n : ℕ) → 256 ^ n ≡ 2 ^ (8 * n)
+pow_bytes zero = refl
+pow_bytes (suc n) =
     let e : 8 * suc n ≡ 8 * n + 8 = omega arith in
-    rw (pow-suc, pow-bytes n, e, pow-add)
+    rw (pow-suc, pow_bytes n, e, pow-add)
 
-inner-small : (u : List ℕ) (at g : ℕ) → inner_of u at g < 65536
+inner_small : (u : List ℕ) (at g : ℕ) → inner_of u at g < 65536
 unfolding inner_of inner_bits
-inner-small u at g =
+inner_small u at g =
     let b : entry_format u at % 16 < 16 = mod-lt (entry_format u at) (omega arith) in
     lt_of_lt_of_le (mod-lt (entry u at g) (pow_pos (entry_format u at % 16 + 1))) (pow_mono {i = entry_format u at % 16 + 1} {j = 16} (omega arith))
 
 pub pair_parts : (u : List ℕ) (m g : ℕ) → present u m ≡ true
     → (outer (pair_of u m g) ≡ outer_of u (map_at u m) g) × (inner (pair_of u m g) ≡ inner_of u (map_at u m) g)
 unfolding pair_of
-pair_parts u m g h = rw h (digits_div (outer_of u (map_at u m) g) (inner-small u (map_at u m) g), digits_mod (outer_of u (map_at u m) g) (inner-small u (map_at u m) g))
+pair_parts u m g h = rw h (digits_div (outer_of u (map_at u m) g) (inner_small u (map_at u m) g), digits_mod (outer_of u (map_at u m) g) (inner_small u (map_at u m) g))
 
 -- an offset that isn't 0
-pub present-there : (t : List ℕ) (m : ℕ) → present t m ≡ true → map_at t m ≡ 0 → ⊥
+pub present_there : (t : List ℕ) (m : ℕ) → present t m ≡ true → map_at t m ≡ 0 → ⊥
 unfolding present
-present-there t m h = eqb-false (map_at t m) 0 (not-true (eqb (map_at t m) 0) h)
+present_there t m h = eqb-false (map_at t m) 0 (not-true (eqb (map_at t m) 0) h)
 
 pub absent_null : (t : List ℕ) (m : ℕ) → present t m ≡ false → map_at t m ≡ 0
 unfolding present
@@ -48,7 +48,7 @@ absent_null t m h = eqb-true (map_at t m) 0 (not_false (eqb (map_at t m) 0) h)
 -- what a glyph reads through a map that is there
 pub glyph_there : (t : List ℕ) (m g : ℕ) → present t m ≡ true → (glyph_outer t m g ≡ outer_of t (map_at t m) g) × (glyph_inner t m g ≡ inner_of t (map_at t m) g)
 unfolding glyph_outer glyph_inner
-glyph_there t m g h = rw (ne_eqb (map_at t m) 0 (present-there t m h)) (refl, refl)
+glyph_there t m g h = rw (ne_eqb (map_at t m) 0 (present_there t m h)) (refl, refl)
 
 -- and through any: the parts of its pair
 pub glyph_parts : (t : List ℕ) (m e : ℕ) → (glyph_outer t m (old_id e) ≡ outer (pair_of t m (old_id e))) × (glyph_inner t m (old_id e) ≡ inner (pair_of t m (old_id e)))
@@ -63,14 +63,14 @@ absent_outer : (t : List ℕ) (m e : ℕ) → present t m ≡ false → outer (p
 unfolding pair_of
 absent_outer t m e h = rw h (div-eq_of_lt (mod-lt e (omega arith)))
 
-outer-fits : (t : List ℕ) (at g : ℕ) → ((i : ℕ) → get_or t i 0 < 256) → bad_map t at ≡ false → outer_of t at g < 2 ^ outer_bits t at
+outer_fits : (t : List ℕ) (at g : ℕ) → ((i : ℕ) → get_or t i 0 < 256) → bad_map t at ≡ false → outer_of t at g < 2 ^ outer_bits t at
 unfolding outer_of outer_bits bad_map entry
-outer-fits t at g bytes good =
+outer_fits t at g bytes good =
     let a = (neither (ltb (length t) (at + 2)) _ good).1 in
     let b = (neither (ltb 1 (map_format t at)) _ a).1 in
     let c : inner_bits t at ≤ 8 * entry_bytes t at = ltb-false (8 * entry_bytes t at) (inner_bits t at) (neither (ltb (8 * entry_bytes t at) (inner_bits t at)) _ b).0 in
     let e : outer_bits t at + inner_bits t at ≡ 8 * entry_bytes t at = omega arith in
-    shr_lt (outer_bits t at) (inner_bits t at) (rw (e, ← pow-bytes (entry_bytes t at)) (be_lt (entry_bytes t at) t _ bytes))
+    shr_lt (outer_bits t at) (inner_bits t at) (rw (e, ← pow_bytes (entry_bytes t at)) (be_lt (entry_bytes t at) t _ bytes))
 
 -- the outer of a glyph's pair fits the outer bits of the written map
 pub pair_fits : (t : List ℕ) (m e : ℕ) → ((i : ℕ) → get_or t i 0 < 256) → (present t m ≡ true → bad_map t (map_at t m) ≡ false)
@@ -78,5 +78,5 @@ pub pair_fits : (t : List ℕ) (m e : ℕ) → ((i : ℕ) → get_or t i 0 < 256
 unfolding new_outer_bits
 pair_fits t m e bytes good =
     decided (present t m)
-    (λ h. rw ((pair_parts t m (old_id e) h).0, h) (outer-fits t (map_at t m) (old_id e) bytes (good h)))
+    (λ h. rw ((pair_parts t m (old_id e) h).0, h) (outer_fits t (map_at t m) (old_id e) bytes (good h)))
     (λ h. rw (absent_outer t m e h, h) (omega arith))

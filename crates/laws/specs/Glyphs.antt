@@ -19,9 +19,9 @@ ids_rise (d ∷ e ∷ es) h =
     let n = neither (leb (new_id e) (new_id d)) (new_ids_stay (e ∷ es)) h in
     (omega arith, (leb-false (new_id e) (new_id d) n.0, (ids_rise (e ∷ es) n.1).1))
 
-pub good-glyphs : (es : List ℕ) → bad_glyphs es ≡ false → Glyphs es
+pub good_glyphs : (es : List ℕ) → bad_glyphs es ≡ false → Glyphs es
 unfolding bad_glyphs bad_id
-good-glyphs es h =
+good_glyphs es h =
     let a = neither (ltb most_glyphs (length es)) _ h in
     let b = neither (new_ids_stay es) (any bad_id es) a.1 in
     record {

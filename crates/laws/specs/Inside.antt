@@ -20,9 +20,9 @@ pub record StoreInside (s : List ℕ) : Type 0 where
   pub few : subtable_count s ≤ 256
   pub inside : 8 + 4 * subtable_count s ≤ length s
 
-pub store-inside : (s : List ℕ) → bad_store s ≡ false → StoreInside s
+pub store_inside : (s : List ℕ) → bad_store s ≡ false → StoreInside s
 unfolding bad_store
-store-inside s e =
+store_inside s e =
     let a = none (ltb (length s) 8) _ e in
     let b = none (differ (store_format s) 1) _ a.1 in
     let c = none (ltb 256 (subtable_count s)) _ b.1 in
@@ -34,9 +34,9 @@ pub record RegionsInside (s : List ℕ) : Type 0 where
   pub few : region_count s ≤ 4096
   pub inside : regions_at s + 4 + region_count s * record_length s ≤ length s
 
-pub regions-inside : (s : List ℕ) → bad_regions s ≡ false → RegionsInside s
+pub regions_inside : (s : List ℕ) → bad_regions s ≡ false → RegionsInside s
 unfolding bad_regions
-regions-inside s e =
+regions_inside s e =
     let a = none (ltb (length s) (regions_at s + 4)) _ e in
     let b = none (ltb 4096 (region_count s)) _ a.1 in
     record { head = ltb-false _ _ a.0; few = ltb-false _ _ b.0; inside = ltb-false _ _ b.1 }
@@ -61,9 +61,9 @@ pub record HeaderInside (maps : ℕ) (t : List ℕ) : Type 0 where
   pub head : 8 + 4 * maps ≤ length t
   pub major : major_version t ≡ 1
 
-pub header-inside : (maps : ℕ) (t : List ℕ) → bad_header maps t ≡ false → HeaderInside maps t
+pub header_inside : (maps : ℕ) (t : List ℕ) → bad_header maps t ≡ false → HeaderInside maps t
 unfolding bad_header header_length
-header-inside maps t e =
+header_inside maps t e =
     let a = none (ltb (length t) (8 + 4 * maps)) _ e in record { head = ltb-false _ _ a.0; major = same _ _ a.1 }
 
 -- 12
@@ -75,9 +75,9 @@ pub record MapInside (t : List ℕ) (at : ℕ) : Type 0 where
   pub some : 1 ≤ map_count t at
   pub inside : at + map_head t at + map_count t at * entry_bytes t at ≤ length t
 
-pub map-inside : (t : List ℕ) (at : ℕ) → bad_map t at ≡ false → MapInside t at
+pub map_inside : (t : List ℕ) (at : ℕ) → bad_map t at ≡ false → MapInside t at
 unfolding bad_map
-map-inside t at e =
+map_inside t at e =
     let a = none (ltb (length t) (at + 2)) _ e in
     let b = none (ltb 1 (map_format t at)) _ a.1 in
     let c = none (ltb (8 * entry_bytes t at) (inner_bits t at)) _ b.1 in

@@ -73,9 +73,9 @@ unfolding flat sum
 length_parts [] = refl
 length_parts (part ∷ parts) = rw (length-append, length_parts parts)
 
-pub length-store : (list : List ℕ) (parts : List (List ℕ)) → length (lay_store list parts) ≡ 8 + 4 * length parts + length list + sum (map (λ part. length part) parts)
+pub length_store : (list : List ℕ) (parts : List (List ℕ)) → length (lay_store list parts) ≡ 8 + 4 * length parts + length list + sum (map (λ part. length part) parts)
 unfolding lay_store
-length-store list parts =
+length_store list parts =
     simp (length-append, length-be_bytes, length-offsets, length_parts) (omega arith)
 
 pub length_null : length null_store ≡ 8
@@ -98,24 +98,24 @@ module _ (s : List ℕ) (inside : regions_at s + 4 + region_count s * record_len
   unfolding region_record
   length_record r h = length-take-le (record_length s) (drop (regions_at s + 4 + r * record_length s) s) (rw length-drop (omega (arith, record_ends r h)))
 
-  pub length-records : (f : ℕ → Bool) (n : ℕ) → n ≤ region_count s → length (flat (λ r. region_record s r) (select f n)) ≡ rank f n * record_length s
+  pub length_records : (f : ℕ → Bool) (n : ℕ) → n ≤ region_count s → length (flat (λ r. region_record s r) (select f n)) ≡ rank f n * record_length s
   unfolding select rank flat
-  length-records f zero h = sym (zero-mul (record_length s))
-  length-records f (suc n) h =
-      rw (flat_append, length-append, length-records f n (omega arith)) (one (f n) (length_record n h))
+  length_records f zero h = sym (zero-mul (record_length s))
+  length_records f (suc n) h =
+      rw (flat_append, length-append, length_records f n (omega arith)) (one (f n) (length_record n h))
     where
       one : (b : Bool) → length (region_record s n) ≡ record_length s
           → rank f n * record_length s + length (flat (λ r. region_record s r) (pick b (n ∷ []) [])) ≡ (rank f n + pick b 1 0) * record_length s
       one true e = simp (append-nil, e) (omega arith)
       one false e = omega arith
 
-  pub length-list : (rs : List Run) → length (region_list_bytes s (used_regions s rs)) ≡ 4 + rank (λ r. is_used s rs r) (region_count s) * record_length s
+  pub length_list : (rs : List Run) → length (region_list_bytes s (used_regions s rs)) ≡ 4 + rank (λ r. is_used s rs r) (region_count s) * record_length s
   unfolding region_list_bytes used_regions
-  length-list rs = simp (length-append, length-be_bytes, length-records (λ r. is_used s rs r) (region_count s) (omega arith)) (omega arith)
+  length_list rs = simp (length-append, length-be_bytes, length_records (λ r. is_used s rs r) (region_count s) (omega arith)) (omega arith)
 
-  pub length-bytes : (rs : List Run)
+  pub length_bytes : (rs : List Run)
       → length (store_bytes s rs) ≡ 8 + 4 * length rs + (4 + rank (λ r. is_used s rs r) (region_count s) * record_length s) + sum (sizes s rs)
   unfolding store_bytes
-  length-bytes rs =
-      length-store (region_list_bytes s (used_regions s rs)) (map (λ run. subtable_bytes s (used_regions s rs) run) rs)
-      ∙ rw (subtable_sizes s (used_regions s rs) rs, length-map (λ run. subtable_bytes s (used_regions s rs) run) rs, length-list rs)
+  length_bytes rs =
+      length_store (region_list_bytes s (used_regions s rs)) (map (λ run. subtable_bytes s (used_regions s rs) run) rs)
+      ∙ rw (subtable_sizes s (used_regions s rs) rs, length-map (λ run. subtable_bytes s (used_regions s rs) run) rs, length_list rs)

@@ -10,25 +10,25 @@ use Rattle.lists.proofs.Members.{member_at, member-keep}
 use Rattle.lists.proofs.Sifted.{member_apart}
 use Rattle.rules.specs.Lists.{outer, inner, twice, bad_pairs, outers_fall, most_pairs, most_glyphs}
 use Rattle.rules.specs.Numbering.{kept_pairs}
-use Rattle.laws.specs.Kept.{kept-good}
+use Rattle.laws.specs.Kept.{kept_good}
 
 -- a pair by its parts
 pub pair_same : (p q : ℕ) → outer p ≡ outer q → inner p ≡ inner q → p ≡ q
 pair_same p q o i = omega arith
 
-pub kept-once : (maps : ℕ) (t es : List ℕ) → 0 < maps → maps ≤ 4 → length es ≤ most_glyphs → twice (kept_pairs maps t es) ≡ false
+pub kept_once : (maps : ℕ) (t es : List ℕ) → 0 < maps → maps ≤ 4 → length es ≤ most_glyphs → twice (kept_pairs maps t es) ≡ false
 unfolding bad_pairs
-kept-once maps t es l most h =
+kept_once maps t es l most h =
     let ps = kept_pairs maps t es in
-    (neither (outers_fall ps) (twice ps) (neither (ltb most_pairs (length ps)) _ (kept-good maps t es l most h)).1).1
+    (neither (outers_fall ps) (twice ps) (neither (ltb most_pairs (length ps)) _ (kept_good maps t es l most h)).1).1
 
 -- nor an inner of one outer
-pub inners-once : (o : ℕ) (ps : List ℕ) → twice ps ≡ false → twice (map (λ p. inner p) (keep (λ p. eqb o (outer p)) ps)) ≡ false
+pub inners_once : (o : ℕ) (ps : List ℕ) → twice ps ≡ false → twice (map (λ p. inner p) (keep (λ p. eqb o (outer p)) ps)) ≡ false
 unfolding twice keep
-inners-once o [] h = refl
-inners-once o (p ∷ ps) h =
+inners_once o [] h = refl
+inners_once o (p ∷ ps) h =
     let n = neither (member p ps) (twice ps) h in
-    step (eqb o (outer p)) (λ e. eqb-true o (outer p) e) n.0 (inners-once o ps n.1)
+    step (eqb o (outer p)) (λ e. eqb-true o (outer p) e) n.0 (inners_once o ps n.1)
   where
     own : List ℕ
     own = keep (λ q. eqb o (outer q)) ps

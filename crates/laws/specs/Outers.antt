@@ -11,7 +11,7 @@ use Rattle.lists.proofs.Each.{neither}
 use Rattle.lists.proofs.Choices.{both_of}
 use Rattle.lists.proofs.Members.{no_member, member_cons, member-map, member-keep}
 use Rattle.lists.proofs.Places.{at_place}
-use Rattle.lists.proofs.Ascending.{Rises, rises-from, place-rises, keep_parts}
+use Rattle.lists.proofs.Ascending.{Rises, rises_from, place_rises, keep_parts}
 use Rattle.rules.specs.Lists.{Run, outer, inner, outers_fall, join_run, runs}
 use Rattle.rules.specs.Numbering.{inners_of, new_outer, new_inner}
 
@@ -52,10 +52,10 @@ rises_join o i b (run ∷ rs) h r = step (eqb o run.outer) (λ e. eqb-true o run
     step true p q = (h, rw (p refl) r.1)
     step false p q = let d = q refl in (h, (omega (arith, r.0, d), r.1))
 
-pub rises-runs : (b : ℕ) (ps : List ℕ) → Climbs b ps → Rises b (outers_of (runs ps))
+pub rises_runs : (b : ℕ) (ps : List ℕ) → Climbs b ps → Rises b (outers_of (runs ps))
 unfolding runs
-rises-runs b [] c = tt
-rises-runs b (p ∷ ps) c = rises_join (outer p) (inner p) b (runs ps) c.0 (rises-runs (outer p) ps c.1)
+rises_runs b [] c = tt
+rises_runs b (p ∷ ps) c = rises_join (outer p) (inner p) b (runs ps) c.0 (rises_runs (outer p) ps c.1)
 
 member_join : (z o i : ℕ) (rs : List Run) → member z (outers_of (join_run o i rs)) ≡ pick (eqb z o) true (member z (outers_of rs))
 unfolding join_run member any
@@ -73,12 +73,12 @@ member_join z o i (run ∷ rs) = step (eqb o run.outer) (λ e. eqb-true o run.ou
     step false p = refl
 
 -- every pair's outer has a run, and no other has
-pub member-outers : (z : ℕ) (ps : List ℕ) → member z (outers_of (runs ps)) ≡ member z (map (λ p. outer p) ps)
+pub member_outers : (z : ℕ) (ps : List ℕ) → member z (outers_of (runs ps)) ≡ member z (map (λ p. outer p) ps)
 unfolding runs
-member-outers z [] = refl
-member-outers z (p ∷ ps) =
+member_outers z [] = refl
+member_outers z (p ∷ ps) =
     member_join z (outer p) (inner p) (runs ps)
-    ∙ (ap (λ (b : Bool). pick (eqb z (outer p)) true b) (member-outers z ps)
+    ∙ (ap (λ (b : Bool). pick (eqb z (outer p)) true b) (member_outers z ps)
     ∙ sym (member_cons z (outer p) (map (λ q. outer q) ps)))
 
 -- ---- the inners of an outer
@@ -88,7 +88,7 @@ unfolding inners_of
 no_inners o [] r = refl
 no_inners o (run ∷ rs) r =
     rw (ne_eqb o run.outer (λ e. omega (arith, r.0)))
-    (no_inners o rs (rises-from (suc o) (suc run.outer) (outers_of rs) (omega (arith, r.0)) r.1))
+    (no_inners o rs (rises_from (suc o) (suc run.outer) (outers_of rs) (omega (arith, r.0)) r.1))
 
 inners_join : (z o i : ℕ) (rs : List Run) → Rises o (outers_of rs)
     → inners_of (join_run o i rs) z ≡ pick (eqb z o) (i ∷ inners_of rs z) (inners_of rs z)
@@ -114,7 +114,7 @@ pub inners_of_lem : (z b : ℕ) (ps : List ℕ) → Climbs b ps → inners_of (r
 unfolding runs keep inners_of
 inners_of_lem z b [] c = refl
 inners_of_lem z b (p ∷ ps) c =
-    inners_join z (outer p) (inner p) (runs ps) (rises-runs (outer p) ps c.1)
+    inners_join z (outer p) (inner p) (runs ps) (rises_runs (outer p) ps c.1)
     ∙ (rw (inners_of_lem z (outer p) ps c.1) (both_ways (eqb z (outer p)) (keep (λ q. eqb z (outer q)) ps)))
   where
     both_ways : (t : Bool) (qs : List ℕ) → pick t (inner p ∷ map (λ q. inner q) qs) (map (λ q. inner q) qs) ≡ map (λ q. inner q) (pick t (p ∷ qs) qs)
@@ -138,7 +138,7 @@ run_at_lem o (run ∷ rs) d h = step (eqb o run.outer) (λ e. eqb-true o run.out
     step false e k i = i k
 
 has-outer : (ps : List ℕ) (p : ℕ) → member p ps ≡ true → member (outer p) (outers_of (runs ps)) ≡ true
-has-outer ps p h = member-outers (outer p) ps ∙ member-map (λ q. outer q) p ps h
+has-outer ps p h = member_outers (outer p) ps ∙ member-map (λ q. outer q) p ps h
 
 has_inner : (b : ℕ) (ps : List ℕ) → Climbs b ps → (p : ℕ) → member p ps ≡ true → member (inner p) (inners_of (runs ps) (outer p)) ≡ true
 has_inner b ps c p h =
@@ -167,13 +167,13 @@ moved b ps c p h d =
     }
 
 -- The new numbers are small: an outer's is at most the outer, an inner's below the number of pairs.
-pub outer-low : (ps : List ℕ) → Climbs 0 ps → (p : ℕ) → member p ps ≡ true → new_outer (runs ps) p ≤ outer p
+pub outer_low : (ps : List ℕ) → Climbs 0 ps → (p : ℕ) → member p ps ≡ true → new_outer (runs ps) p ≤ outer p
 unfolding new_outer
-outer-low ps c p h = let low = place-rises 0 (outers_of (runs ps)) (rises-runs 0 ps c) (outer p) (has-outer ps p h) in omega arith
+outer_low ps c p h = let low = place_rises 0 (outers_of (runs ps)) (rises_runs 0 ps c) (outer p) (has-outer ps p h) in omega arith
 
-pub inner-low : (b : ℕ) (ps : List ℕ) → Climbs b ps → (p : ℕ) → member p ps ≡ true → new_inner (runs ps) p < length ps
+pub inner_low : (b : ℕ) (ps : List ℕ) → Climbs b ps → (p : ℕ) → member p ps ≡ true → new_inner (runs ps) p < length ps
 unfolding new_inner
-inner-low b ps c p h =
+inner_low b ps c p h =
     let row = at_place (inner p) 0 (inners_of (runs ps) (outer p)) (has_inner b ps c p h) in
     let own : ℕ → Bool = λ q. eqb (outer p) (outer q) in
     let n = ap (λ (is : List ℕ). length is) (inners_of_lem (outer p) b ps c) ∙ length-map (keep own ps) (λ q. inner q) in

@@ -28,16 +28,16 @@ climbs_at b [] c k h = absurd (not-suc-le-zero h)
 climbs_at b (p ∷ ps) c zero h = c.0
 climbs_at b (p ∷ ps) c (suc k) h = le_trans c.0 (climbs_at (outer p) ps c.1 k (omega arith))
 
-climbs-order : (b : ℕ) (ps : List ℕ) → Climbs b ps → (i k : ℕ) → i ≤ k → k < length ps → outer (get_or ps i 0) ≤ outer (get_or ps k 0)
-climbs-order b [] c i k l h = absurd (not-suc-le-zero h)
-climbs-order b (p ∷ ps) c zero k l h = climbs_at (outer p) (p ∷ ps) (le_of_eq refl, c.1) k h
-climbs-order b (p ∷ ps) c (suc i) zero l h = absurd (not-suc-le-zero l)
-climbs-order b (p ∷ ps) c (suc i) (suc k) l h = climbs-order (outer p) ps c.1 i k (omega arith) (omega arith)
+climbs_order : (b : ℕ) (ps : List ℕ) → Climbs b ps → (i k : ℕ) → i ≤ k → k < length ps → outer (get_or ps i 0) ≤ outer (get_or ps k 0)
+climbs_order b [] c i k l h = absurd (not-suc-le-zero h)
+climbs_order b (p ∷ ps) c zero k l h = climbs_at (outer p) (p ∷ ps) (le_of_eq refl, c.1) k h
+climbs_order b (p ∷ ps) c (suc i) zero l h = absurd (not-suc-le-zero l)
+climbs_order b (p ∷ ps) c (suc i) (suc k) l h = climbs_order (outer p) ps c.1 i k (omega arith) (omega arith)
 
 -- a later pair has no lower outer
-pub outers-climb : (ps : List ℕ) → outers_fall ps ≡ false → (i k : ℕ) → i ≤ k → k < length ps → outer (get_or ps i 0) ≤ outer (get_or ps k 0)
-outers-climb [] e i k l h = absurd (not-suc-le-zero h)
-outers-climb (p ∷ ps) e i k l h = climbs-order (outer p) (p ∷ ps) (not_fall_climbs p ps e) i k l h
+pub outers_climb : (ps : List ℕ) → outers_fall ps ≡ false → (i k : ℕ) → i ≤ k → k < length ps → outer (get_or ps i 0) ≤ outer (get_or ps k 0)
+outers_climb [] e i k l h = absurd (not-suc-le-zero h)
+outers_climb (p ∷ ps) e i k l h = climbs_order (outer p) (p ∷ ps) (not_fall_climbs p ps e) i k l h
 
 -- ---- twice
 
@@ -45,11 +45,11 @@ outers-climb (p ∷ ps) e i k l h = climbs-order (outer p) (p ∷ ps) (not_fall_
 abbrev pub again : List ℕ → ℕ → Bool
 again ps k = member (get_or ps k 0) (take k ps)
 
-twice-more : (ps : List ℕ) (p : ℕ) → twice (ps ++ p ∷ []) ≡ pick (member p ps) true (twice ps)
+twice_more : (ps : List ℕ) (p : ℕ) → twice (ps ++ p ∷ []) ≡ pick (member p ps) true (twice ps)
 unfolding twice member any
-twice-more [] p = refl
-twice-more (q ∷ ps) p =
-    rw (twice-more ps p, member-append q ps (p ∷ []), turned) (four (eqb p q) (member q ps) (member p ps) (twice ps))
+twice_more [] p = refl
+twice_more (q ∷ ps) p =
+    rw (twice_more ps p, member-append q ps (p ∷ []), turned) (four (eqb p q) (member q ps) (member p ps) (twice ps))
   where
     turned : eqb q p ≡ eqb p q
     turned = elim (ℕ_discrete p q) [
@@ -67,7 +67,7 @@ twice-more (q ∷ ps) p =
 twice-take : (ps : List ℕ) (n : ℕ) → n ≤ length ps → twice (take n ps) ≡ some (again ps) n
 unfolding some twice
 twice-take ps zero h = refl
-twice-take ps (suc n) h = rw (take-suc ps n 0 h, twice-more (take n ps) (get_or ps n 0), twice-take ps n (omega arith))
+twice-take ps (suc n) h = rw (take-suc ps n 0 h, twice_more (take n ps) (get_or ps n 0), twice-take ps n (omega arith))
 
 -- a pair stands twice where one stands before itself
 pub twice-some : (ps : List ℕ) → twice ps ≡ some (again ps) (length ps)

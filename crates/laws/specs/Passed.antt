@@ -14,13 +14,13 @@ abbrev bytes_of : Outcome → List ℕ
 bytes_of (refused r) = []
 bytes_of (written w) = w
 
-pub not-refused : (r : Refusal) (w : List ℕ) → refused r ≡ written w → ⊥
-not-refused r w e = false≢true (ap accepts e)
+pub not_refused : (r : Refusal) (w : List ℕ) → refused r ≡ written w → ⊥
+not_refused r w e = false≢true (ap accepts e)
 
 pub same_bytes : (v w : List ℕ) → written v ≡ written w → v ≡ w
 same_bytes v w e = ap bytes_of e
 
 -- one step through the chain
 pub passed : (b : Bool) (r : Refusal) (next : Outcome) (w : List ℕ) → pick b (refused r) next ≡ written w → (b ≡ false) × (next ≡ written w)
-passed true r next w e = absurd (not-refused r w e)
+passed true r next w e = absurd (not_refused r w e)
 passed false r next w e = (refl, e)

@@ -12,23 +12,23 @@ pub row_inside : (i n r : ℕ) → i < n → i * r + r ≤ n * r
 row_inside i n r h = omega (arith, mul-le-mul_right {m = suc i} {n = n} r h, suc-mul i r)
 
 -- a cell ends inside its row
-pub cell-inside : (is_long : Bool) (words columns c : ℕ) → words ≤ columns → c < columns
+pub cell_inside : (is_long : Bool) (words columns c : ℕ) → words ≤ columns → c < columns
     → cell_at is_long words c + cell_size is_long words c ≤ length_of_row is_long words columns
 unfolding cell_at cell_size length_of_row
-cell-inside true words columns c o h = elim (dec_lt c words) [
+cell_inside true words columns c o h = elim (dec_lt c words) [
   | yes p ↦ rw (lt-ltb c words p) (omega arith)
   | no p ↦ (let q : words ≤ c = omega arith in rw (le-ltb c words q) (omega arith))
 ]
-cell-inside false words columns c o h = elim (dec_lt c words) [
+cell_inside false words columns c o h = elim (dec_lt c words) [
   | yes p ↦ rw (lt-ltb c words p) (omega arith)
   | no p ↦ (let q : words ≤ c = omega arith in rw (le-ltb c words q) (omega arith))
 ]
 
 -- a row has at most 4 bytes a column
-pub row-short : (is_long : Bool) (words columns : ℕ) → words ≤ columns → length_of_row is_long words columns ≤ 4 * columns
+pub row_short : (is_long : Bool) (words columns : ℕ) → words ≤ columns → length_of_row is_long words columns ≤ 4 * columns
 unfolding length_of_row
-row-short true words columns o = omega arith
-row-short false words columns o = omega arith
+row_short true words columns o = omega arith
+row_short false words columns o = omega arith
 
 -- a cell has 1, 2 or 4 bytes
 pub cell_has_size : (is_long : Bool) (words c : ℕ) → Size (cell_size is_long words c)
@@ -48,5 +48,5 @@ unfolding row cell row_length
 row-cell s at i c o h =
     let w = cell_size (long s at) (word_count s at) c in
     let k = cell_at (long s at) (word_count s at) c in
-    let f = cell-inside (long s at) (word_count s at) (column_count s at) c o h in
+    let f = cell_inside (long s at) (word_count s at) (column_count s at) c o h in
     rw (be-take w (length_of_row (long s at) (word_count s at) (column_count s at)) (drop (row_at s at i) s) k f, be-drop w (row_at s at i) s k)

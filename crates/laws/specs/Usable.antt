@@ -21,10 +21,10 @@ in_array s o e = leb-false (subtable_count s) o (neither (leb (subtable_count s)
 unfoldable pub unusable : List ℕ → Run → Bool
 unusable s run = pick (absent_subtable s run.outer) true (bad_subtable s (subtable_at s run.outer))
 
-pub all-usable : (s : List ℕ) (rs : List Run) (w : List ℕ) → subtables_or s rs (written w) ≡ written w → any (λ run. unusable s run) rs ≡ false
+pub all_usable : (s : List ℕ) (rs : List Run) (w : List ℕ) → subtables_or s rs (written w) ≡ written w → any (λ run. unusable s run) rs ≡ false
 unfolding subtables_or any unusable
-all-usable s [] w e = refl
-all-usable s (run ∷ rs) w e =
+all_usable s [] w e = refl
+all_usable s (run ∷ rs) w e =
     let p = passed (absent_subtable s run.outer) AbsentSubtable _ w e in
     let q = passed (bad_subtable s (subtable_at s run.outer)) BadSubtable (subtables_or s rs (written w)) w p.1 in
-    rw (p.0, q.0) (all-usable s rs w q.1)
+    rw (p.0, q.0) (all_usable s rs w q.1)

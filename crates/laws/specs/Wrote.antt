@@ -37,6 +37,6 @@ wrote (written bytes) false room n out out' e f = fits (ltb room (length bytes))
         let size : n ≡ length bytes = ap length_in e in
         rw (f, size) (ap written (sym (take-append_seam bytes (drop (length bytes) out))))
 
-pub call-wrote : {o : Outcome} {work out work' out' : List ℕ} {n : ℕ} → Promise o work out (Written n) work' out' → o ≡ written (take n out')
+pub call_wrote : {o : Outcome} {work out work' out' : List ℕ} {n : ℕ} → Promise o work out (Written n) work' out' → o ≡ written (take n out')
 unfolding answer_of
-call-wrote {o} {work} {out} {work'} {out'} {n} p = wrote o (ltb (length work) work_length) (length out) n out out' p.answers p.outputs
+call_wrote {o} {work} {out} {work'} {out'} {n} p = wrote o (ltb (length work) work_length) (length out) n out out' p.answers p.outputs

@@ -21,10 +21,10 @@ any_append f (x ∷ xs) ys = rw (any_append f xs ys) (three (f x) (any f xs) (an
     three false b c = refl
 
 -- there is an element
-pub any-there : {A : Type 0} (xs : List A) → any (λ x. true) xs ≡ ltb 0 (length xs)
+pub any_there : {A : Type 0} (xs : List A) → any (λ x. true) xs ≡ ltb 0 (length xs)
 unfolding any
-any-there [] = refl
-any-there (x ∷ xs) = sym (lt-ltb 0 (length (x ∷ xs)) (omega arith))
+any_there [] = refl
+any_there (x ∷ xs) = sym (lt-ltb 0 (length (x ∷ xs)) (omega arith))
 
 pub any-select : (f g : ℕ → Bool) (n : ℕ) → any g (select f n) ≡ some (λ c. both (g c) (f c)) n
 unfolding any some select

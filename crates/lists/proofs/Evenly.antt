@@ -27,10 +27,10 @@ module _ {A : Type 0} (f : A → List ℕ) (n : ℕ) (same : (x : A) → length 
       let t = gather-length (λ j. f (g j)) n (λ j. same (g j)) m in
       omega (arith, laid_inside m l h (omega arith), same (g k))
 
-  pub even-more : {w : List ℕ} → Laid (λ j. f (g j)) old k at out → at + n ≤ length old → w ≡ sets out at (f (g k)) → Laid (λ j. f (g j)) old (k + 1) (at + n) w
-  even-more l h q = laid_sets l (omega (arith, same (g k))) h q
+  pub even_more : {w : List ℕ} → Laid (λ j. f (g j)) old k at out → at + n ≤ length old → w ≡ sets out at (f (g k)) → Laid (λ j. f (g j)) old (k + 1) (at + n) w
+  even_more l h q = laid_sets l (omega (arith, same (g k))) h q
 
-  pub even-all : (m : ℕ) → Laid (λ j. f (g j)) old k at out → k ≡ m → length old ≡ m * n → out ≡ flat f (tab g m)
-  even-all m l e h =
+  pub even_all : (m : ℕ) → Laid (λ j. f (g j)) old k at out → k ≡ m → length old ≡ m * n → out ≡ flat f (tab g m)
+  even_all m l e h =
       let t = gather-length (λ j. f (g j)) n (λ j. same (g j)) m in
       laid_all m l e (omega arith) ∙ gather-tab f g m

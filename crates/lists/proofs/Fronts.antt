@@ -7,7 +7,7 @@ use lib.ListN.{length, take}
 use lib.Seq.{take_all, take-add, take-take, take-append-add, take-append-le, length-take-le}
 use borrow.Rule.Slice.PartMut.{mid_of, post_of, put_mid, mid_len, same_len_mid}
 use Rattle.lists.specs.Gather.{gather}
-use Rattle.lists.proofs.Pieces.{gather_none, gather-more, gather_length_more, gather-inside}
+use Rattle.lists.proofs.Pieces.{gather_none, gather_more, gather_length_more, gather_inside}
 
 -- a part from a on is lent and comes back as w: the front up to n elements of it
 pub put_front : (a k n : ℕ) (out w : List ℕ) → a ≤ length out → n ≤ length w → take (a + n) (put_mid a k out w) ≡ take a out ++ take n w
@@ -25,7 +25,7 @@ fronted_none f old = record { up_to = rw gather_none; same = refl; is = rw gathe
 
 -- the next piece ends inside, where all n do
 pub fronted_inside : {f : ℕ → List ℕ} {old : List ℕ} {k at : ℕ} {out : List ℕ} (n : ℕ) → Fronted f old k at out → k < n → length (gather f n) ≤ length old → at + length (f k) ≤ length old
-fronted_inside {f} {old} {k} n l h g = omega (arith, l.up_to, gather-inside f k n h)
+fronted_inside {f} {old} {k} n l h g = omega (arith, l.up_to, gather_inside f k n h)
 
 -- all that lies behind the pieces is lent, and comes back with the next one at its front
 pub fronted_more : {f : ℕ → List ℕ} {old : List ℕ} {k at : ℕ} {out : List ℕ} (w : List ℕ) {e n : ℕ} → Fronted f old k at out → e ≡ length (f k) → at + e ≤ length old → n ≡ length old
@@ -33,7 +33,7 @@ pub fronted_more : {f : ℕ → List ℕ} {old : List ℕ} {k at : ℕ} {out : L
 fronted_more {f} {old} {k} {at} {out} w {e} {n} l p h q m t = record {
   up_to = rw gather_length_more (omega (arith, l.up_to));
   same = same_len_mid at (n - at) out w (m ∙ sym (mid_len at n out (omega (arith, l.same)))) ∙ l.same;
-  is = put_front at (n - at) e out w (omega (arith, l.same)) (omega arith) ∙ rw (l.is, t, gather-more);
+  is = put_front at (n - at) e out w (omega (arith, l.same)) (omega arith) ∙ rw (l.is, t, gather_more);
 }
 
 -- the pieces are the whole

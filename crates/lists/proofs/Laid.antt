@@ -6,7 +6,7 @@ use native.Mathlib.Omega.{arith}
 use lib.ListN.{length, drop}
 use borrow.Rule.Slice.PartMut.{mid_of, put_mid, mid_len, same_len_mid}
 use Rattle.lists.specs.Gather.{gather}
-use Rattle.lists.proofs.Pieces.{gather_none, gather-more, gather_length_more, gather-inside}
+use Rattle.lists.proofs.Pieces.{gather_none, gather_more, gather_length_more, gather_inside}
 use Rattle.lists.proofs.Parts.{put_next, all_laid}
 
 -- out is old with the first k pieces laid over its first `at` elements
@@ -20,7 +20,7 @@ laid_none f old = record { up_to = rw gather_none; same = refl; is = rw gather_n
 
 -- the next piece ends inside, where all n do
 pub laid_inside : {f : ℕ → List ℕ} {old : List ℕ} {k at : ℕ} {out : List ℕ} (n : ℕ) → Laid f old k at out → k < n → length (gather f n) ≤ length old → at + length (f k) ≤ length old
-laid_inside {f} {old} {k} n l h g = omega (arith, gather-inside f k n h)
+laid_inside {f} {old} {k} n l h g = omega (arith, gather_inside f k n h)
 
 pub laid_more : {f : ℕ → List ℕ} {old : List ℕ} {k at : ℕ} {out w : List ℕ} {e : ℕ} → Laid f old k at out → e ≡ at + length (f k) → e ≤ length old → w ≡ f k → Laid f old (k + 1) e (put_mid at (e - at) out w)
 laid_more {f} {old} {k} {at} {out} {w} {e} l p h q =
@@ -28,7 +28,7 @@ laid_more {f} {old} {k} {at} {out} {w} {e} l p h q =
     record {
       up_to = rw gather_length_more (omega arith);
       same = same_len_mid at (e - at) out w n ∙ l.same;
-      is = put_next old (gather f k) (gather f (k + 1)) at e l.is (sym l.up_to) (omega arith) q (sym (gather-more f k));
+      is = put_next old (gather f k) (gather f (k + 1)) at e l.is (sym l.up_to) (omega arith) q (sym (gather_more f k));
     }
 
 -- after the last turn

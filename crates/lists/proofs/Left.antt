@@ -10,9 +10,9 @@ use borrow.Author.Tests.{eq-eqb, ne_eqb}
 use Rattle.lists.specs.Search.{any, some, place}
 
 module _ (f : ℕ → Bool) (xs : List ℕ) (i : ℕ) (left : any f (drop i xs) ≡ any f xs) where
-  pub any-more : i < length xs → f (get_or xs i 0) ≡ false → any f (drop (i + 1) xs) ≡ any f xs
+  pub any_more : i < length xs → f (get_or xs i 0) ≡ false → any f (drop (i + 1) xs) ≡ any f xs
   unfolding any
-  any-more h e = let k = rw (drop-cons xs i 0 h, e) at left in rw add-one k
+  any_more h e = let k = rw (drop-cons xs i 0 h, e) at left in rw add-one k
 
   pub any_found : i < length xs → f (get_or xs i 0) ≡ true → any f xs ≡ true
   unfolding any
@@ -43,9 +43,9 @@ module _ (x : ℕ) (l : List ℕ) (to : ℕ) (inside : to ≤ length l) (i : ℕ
   unfolding place
   place_found h e = rw (left h, eq-eqb x (get_or l i 0) (sym e))
 
-  pub place-more : i < to → (get_or l i 0 ≡ x → ⊥) → place x (drop i (take to l)) ≡ suc (place x (drop (i + 1) (take to l)))
+  pub place_more : i < to → (get_or l i 0 ≡ x → ⊥) → place x (drop i (take to l)) ≡ suc (place x (drop (i + 1) (take to l)))
   unfolding place
-  place-more h n = rw (left h, ne_eqb x (get_or l i 0) (λ e. n (sym e)))
+  place_more h n = rw (left h, ne_eqb x (get_or l i 0) (λ e. n (sym e)))
 
   pub place_end : to ≤ i → place x (drop i (take to l)) ≡ 0
   unfolding place

@@ -15,20 +15,20 @@ unfolding gather
 gather_none f = refl
 
 -- one more turn of a loop
-pub gather-more : (f : ℕ → List ℕ) (n : ℕ) → gather f (n + 1) ≡ gather f n ++ f n
+pub gather_more : (f : ℕ → List ℕ) (n : ℕ) → gather f (n + 1) ≡ gather f n ++ f n
 unfolding gather
-gather-more f n = rw add-one
+gather_more f n = rw add-one
 
 pub gather_length_more : (f : ℕ → List ℕ) (n : ℕ) → length (gather f (n + 1)) ≡ length (gather f n) + length (f n)
-gather_length_more f n = simp (gather-more, length-append)
+gather_length_more f n = simp (gather_more, length-append)
 
 -- a turn's piece ends inside the whole
-pub gather-inside : (f : ℕ → List ℕ) (k n : ℕ) → k < n → length (gather f k) + length (f k) ≤ length (gather f n)
+pub gather_inside : (f : ℕ → List ℕ) (k n : ℕ) → k < n → length (gather f k) + length (f k) ≤ length (gather f n)
 unfolding gather
-gather-inside f k zero h = absurd (not-suc-le-zero h)
-gather-inside f k (suc n) h =
+gather_inside f k zero h = absurd (not-suc-le-zero h)
+gather_inside f k (suc n) h =
     rw length-append
-    (⊎_elim (λ e. rw e (omega arith)) (λ l. let i = gather-inside f k n l in omega arith)
+    (⊎_elim (λ e. rw e (omega arith)) (λ l. let i = gather_inside f k n l in omega arith)
     (eq-or-lt_of_le (le_of_suc-le-suc h)))
 
 -- pieces of one length
@@ -50,9 +50,9 @@ gather-flat f xs (suc n) h =
     let l : n ≤ length xs = omega arith in
     simp (take-suc xs n 0 h, flat_append, gather-flat f xs n l, append-nil)
 
-pub tab-more : {A : Type 0} (f : ℕ → A) (n : ℕ) → tab f (n + 1) ≡ tab f n ++ f n ∷ []
+pub tab_more : {A : Type 0} (f : ℕ → A) (n : ℕ) → tab f (n + 1) ≡ tab f n ++ f n ∷ []
 unfolding tab
-tab-more f n = rw add-one
+tab_more f n = rw add-one
 
 pub length-tab : {A : Type 0} (f : ℕ → A) (n : ℕ) → length (tab f n) ≡ n
 unfolding tab

@@ -66,10 +66,10 @@ member-append x (y ∷ xs) ys = rw (member-append x xs ys) (step (eqb x y) (any 
     step false b c = refl
 
 -- a number at or past n is not selected below n; a selected one is a member
-other-one : (r n : ℕ) (b : Bool) → (r ≡ n → ⊥) → member r (pick b (n ∷ []) []) ≡ false
+other_one : (r n : ℕ) (b : Bool) → (r ≡ n → ⊥) → member r (pick b (n ∷ []) []) ≡ false
 unfolding member any
-other-one r n true h = rw (ne_eqb r n h)
-other-one r n false h = refl
+other_one r n true h = rw (ne_eqb r n h)
+other_one r n false h = refl
 
 self_one : (n : ℕ) (b : Bool) → b ≡ true → (member n (pick b (n ∷ []) []) ≡ true) × (place n (pick b (n ∷ []) []) ≡ 0)
 unfolding member any place
@@ -81,7 +81,7 @@ unfolding select member any
 not_below f r zero h = refl
 not_below f r (suc n) h =
     let l : n ≤ r = omega arith in
-    member-append r (select f n) (pick (f n) (n ∷ []) []) ∙ rw (not_below f r n l) (other-one r n (f n) (λ e. omega arith))
+    member-append r (select f n) (pick (f n) (n ∷ []) []) ∙ rw (not_below f r n l) (other_one r n (f n) (λ e. omega arith))
 
 pub is_selected : (f : ℕ → Bool) (r n : ℕ) → r < n → f r ≡ true → member r (select f n) ≡ true
 unfolding select

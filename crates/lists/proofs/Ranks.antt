@@ -26,12 +26,12 @@ unfolding rank
 rank_none x zero h = refl
 rank_none x (suc n) h = rw (ne_eqb n x (λ e. omega arith), rank_none x n (omega arith))
 
-rank-one : (x n : ℕ) → rank (λ c. eqb c x) n ≤ 1
+rank_one : (x n : ℕ) → rank (λ c. eqb c x) n ≤ 1
 unfolding rank
-rank-one x zero = omega arith
-rank-one x (suc n) = elim (ℕ_discrete n x) [
+rank_one x zero = omega arith
+rank_one x (suc n) = elim (ℕ_discrete n x) [
   | yes e ↦ (let z = rank_none x n (omega arith) in rw (eq-eqb n x e, z) (omega arith))
-  | no e ↦ (let i = rank-one x n in rw (ne_eqb n x e) (omega arith))
+  | no e ↦ (let i = rank_one x n in rw (ne_eqb n x e) (omega arith))
 ]
 
 rank_false : (n : ℕ) → rank (λ c. false) n ≤ 0
@@ -45,6 +45,6 @@ unfolding member any
 rank_members [] n = rank_false n
 rank_members (x ∷ xs) n =
     let a = rank_or (λ c. eqb c x) (λ c. member c xs) n in
-    let b = rank-one x n in
+    let b = rank_one x n in
     let i = rank_members xs n in
     omega (arith, a, b, i)

@@ -36,30 +36,30 @@ side xs ys c h l r =
           r (c - length xs, omega (arith, t), e, ap (λ (k : ℕ). get_or (xs ++ ys) k 0) e ∙ get_or-append-add xs ys (c - length xs) 0))
     ]
 
-pub select-sound : (f : ℕ → Bool) (n c : ℕ) → c < length (select f n) → (get_or (select f n) c 0 < n) × (f (get_or (select f n) c 0) ≡ true)
+pub select_sound : (f : ℕ → Bool) (n c : ℕ) → c < length (select f n) → (get_or (select f n) c 0 < n) × (f (get_or (select f n) c 0) ≡ true)
 unfolding select Left Right
-select-sound f zero c h = absurd (omega arith)
-select-sound f (suc n) c h =
+select_sound f zero c h = absurd (omega arith)
+select_sound f (suc n) c h =
     side (select f n) (pick (f n) (n ∷ []) []) c h
-    (λ l. let i = select-sound f n c l.0 in rw l.1 (omega (arith, i.0), i.1))
+    (λ l. let i = select_sound f n c l.0 in rw l.1 (omega (arith, i.0), i.1))
     (λ r. let o = one_at f n (f n) r.0 refl r.1 in rw (r.3, o.0) (omega arith, o.1))
 
 -- and rises
-pub select-rises : (f : ℕ → Bool) (n c d : ℕ) → c < d → d < length (select f n) → get_or (select f n) c 0 < get_or (select f n) d 0
+pub select_rises : (f : ℕ → Bool) (n c d : ℕ) → c < d → d < length (select f n) → get_or (select f n) c 0 < get_or (select f n) d 0
 unfolding select Left Right
-select-rises f zero c d l h = absurd (omega arith)
-select-rises f (suc n) c d l h =
+select_rises f zero c d l h = absurd (omega arith)
+select_rises f (suc n) c d l h =
     side (select f n) (pick (f n) (n ∷ []) []) d h
-    (λ a. rw (a.1, get_or-append (select f n) (pick (f n) (n ∷ []) []) 0 c (omega (arith, a.0))) (select-rises f n c d l a.0))
+    (λ a. rw (a.1, get_or-append (select f n) (pick (f n) (n ∷ []) []) 0 c (omega (arith, a.0))) (select_rises f n c d l a.0))
     (λ r. let o = one_at f n (f n) r.0 refl r.1 in
     let k : c < length (select f n) = omega (arith, r.2, o.2) in
-    rw (r.3, o.0, get_or-append (select f n) (pick (f n) (n ∷ []) []) 0 c k) (select-sound f n c k).0)
+    rw (r.3, o.0, get_or-append (select f n) (pick (f n) (n ∷ []) []) 0 c k) (select_sound f n c k).0)
 
-select-once : (f : ℕ → Bool) (n c d : ℕ) → c < length (select f n) → d < length (select f n) → get_or (select f n) c 0 ≡ get_or (select f n) d 0 → c ≡ d
-select-once f n c d h k e = elim (dec_lt c d) [
-  | yes l ↦ absurd (let r = select-rises f n c d l k in omega (arith, e))
+select_once : (f : ℕ → Bool) (n c d : ℕ) → c < length (select f n) → d < length (select f n) → get_or (select f n) c 0 ≡ get_or (select f n) d 0 → c ≡ d
+select_once f n c d h k e = elim (dec_lt c d) [
+  | yes l ↦ absurd (let r = select_rises f n c d l k in omega (arith, e))
   | no l ↦ elim (dec_lt d c) [
-    | yes m ↦ absurd (let r = select-rises f n d c m h in omega (arith, e))
+    | yes m ↦ absurd (let r = select_rises f n d c m h in omega (arith, e))
     | no m ↦ omega arith
   ]
 ]
@@ -76,39 +76,39 @@ ranks_few f g (suc n) x = let i = ranks_few f g n x in let o = one (f n) (g n) (
     one false true h = omega arith
     one false false h = omega arith
 
-pub pair-few : (f g : ℕ → Bool) (n : ℕ) → ((b : ℕ) → f b ≡ true → g b ≡ true → ⊥) → length (select f n ++ select g n) ≤ n
-pair-few f g n x = rw (length-append, length-select f n, length-select g n) (ranks_few f g n x)
+pub pair_few : (f g : ℕ → Bool) (n : ℕ) → ((b : ℕ) → f b ≡ true → g b ≡ true → ⊥) → length (select f n ++ select g n) ≤ n
+pair_few f g n x = rw (length-append, length-select f n, length-select g n) (ranks_few f g n x)
 
-pub select-few : (f : ℕ → Bool) (n : ℕ) → length (select f n) ≤ n
-select-few f n = let p = pair-few f (λ c. false) n (λ b e h. false≢true h) in let t = length-append (select f n) (select (λ c. false) n) in omega arith
+pub select_few : (f : ℕ → Bool) (n : ℕ) → length (select f n) ≤ n
+select_few f n = let p = pair_few f (λ c. false) n (λ b e h. false≢true h) in let t = length-append (select f n) (select (λ c. false) n) in omega arith
 
 pub pair_inside : (f g : ℕ → Bool) (n c : ℕ) → c < length (select f n ++ select g n) → get_or (select f n ++ select g n) c 0 < n
 unfolding Left Right
 pair_inside f g n c h =
     side (select f n) (select g n) c h
-    (λ l. rw l.1 (select-sound f n c l.0).0)
-    (λ r. rw r.3 (select-sound g n r.0 r.1).0)
+    (λ l. rw l.1 (select_sound f n c l.0).0)
+    (λ r. rw r.3 (select_sound g n r.0 r.1).0)
 
-pub pair-holds : (f g h : ℕ → Bool) (n : ℕ) → ((b : ℕ) → f b ≡ true → h b ≡ true) → ((b : ℕ) → g b ≡ true → h b ≡ true)
+pub pair_holds : (f g h : ℕ → Bool) (n : ℕ) → ((b : ℕ) → f b ≡ true → h b ≡ true) → ((b : ℕ) → g b ≡ true → h b ≡ true)
     → (c : ℕ) → c < length (select f n ++ select g n) → h (get_or (select f n ++ select g n) c 0) ≡ true
 unfolding Left Right
-pair-holds f g h n p q c l =
+pair_holds f g h n p q c l =
     side (select f n) (select g n) c l
-    (λ a. rw a.1 (p _ (select-sound f n c a.0).1))
-    (λ r. rw r.3 (q _ (select-sound g n r.0 r.1).1))
+    (λ a. rw a.1 (p _ (select_sound f n c a.0).1))
+    (λ r. rw r.3 (q _ (select_sound g n r.0 r.1).1))
 
-pub pair-once : (f g : ℕ → Bool) (n : ℕ) → ((b : ℕ) → f b ≡ true → g b ≡ true → ⊥) → (c d : ℕ)
+pub pair_once : (f g : ℕ → Bool) (n : ℕ) → ((b : ℕ) → f b ≡ true → g b ≡ true → ⊥) → (c d : ℕ)
     → c < length (select f n ++ select g n) → d < length (select f n ++ select g n)
     → get_or (select f n ++ select g n) c 0 ≡ get_or (select f n ++ select g n) d 0 → c ≡ d
 unfolding Left Right
-pair-once f g n x c d h k e =
+pair_once f g n x c d h k e =
     side (select f n) (select g n) c h
     (λ l. side (select f n) (select g n) d k
-    (λ m. select-once f n c d l.0 m.0 (sym l.1 ∙ e ∙ m.1))
-    (λ r. absurd (x (get_or (select f n) c 0) (select-sound f n c l.0).1 (ap g (sym l.1 ∙ e ∙ r.3) ∙ (select-sound g n r.0 r.1).1))))
+    (λ m. select_once f n c d l.0 m.0 (sym l.1 ∙ e ∙ m.1))
+    (λ r. absurd (x (get_or (select f n) c 0) (select_sound f n c l.0).1 (ap g (sym l.1 ∙ e ∙ r.3) ∙ (select_sound g n r.0 r.1).1))))
     (λ r. side (select f n) (select g n) d k
-    (λ m. absurd (x (get_or (select f n) d 0) (select-sound f n d m.0).1 (ap g (sym m.1 ∙ sym e ∙ r.3) ∙ (select-sound g n r.0 r.1).1)))
-    (λ q. let i = select-once g n r.0 q.0 r.1 q.1 (sym r.3 ∙ e ∙ q.3) in omega (arith, r.2, q.2, i)))
+    (λ m. absurd (x (get_or (select f n) d 0) (select_sound f n d m.0).1 (ap g (sym m.1 ∙ sym e ∙ r.3) ∙ (select_sound g n r.0 r.1).1)))
+    (λ q. let i = select_once g n r.0 q.0 r.1 q.1 (sym r.3 ∙ e ∙ q.3) in omega (arith, r.2, q.2, i)))
 
 -- a number that is in neither was selected by neither
 pub pair_out : (f g : ℕ → Bool) (n b : ℕ) → b < n → ((c : ℕ) → c < length (select f n ++ select g n) → get_or (select f n ++ select g n) c 0 ≡ b → ⊥)

@@ -58,14 +58,14 @@ module _ (f : ℕ → Bool) (k : ℕ) (t : f k ≡ true) (h : (i : ℕ) → i < 
   unfolding select
   up_to = rw (add-one, select_none f k h, t)
 
-  pub select-first : (n : ℕ) → k < n → select f n ≡ k ∷ map (λ i. k + 1 + i) (select (λ i. f (k + 1 + i)) (n - (k + 1)))
-  select-first n l =
+  pub select_first : (n : ℕ) → k < n → select f n ≡ k ∷ map (λ i. k + 1 + i) (select (λ i. f (k + 1 + i)) (n - (k + 1)))
+  select_first n l =
       let e : n ≡ k + 1 + (n - (k + 1)) = omega arith in
       ap (λ (j : ℕ). select f j) e ∙ rw (select_add f (k + 1) (n - (k + 1)), up_to)
 
-  pub rank-first : (n : ℕ) → k < n → rank f n ≡ suc (rank (λ i. f (k + 1 + i)) (n - (k + 1)))
-  rank-first n l =
-      rw (← length-select f n, ← length-select (λ i. f (k + 1 + i)) (n - (k + 1)), select-first n l, length-map)
+  pub rank_first : (n : ℕ) → k < n → rank f n ≡ suc (rank (λ i. f (k + 1 + i)) (n - (k + 1)))
+  rank_first n l =
+      rw (← length-select f n, ← length-select (λ i. f (k + 1 + i)) (n - (k + 1)), select_first n l, length-map)
 
 pub rank_none : (f : ℕ → Bool) → 0 ≡ rank f 0
 unfolding rank

@@ -36,10 +36,10 @@ pub record Sifted {A : Type 0} (f : A → Bool) (d : A) (xs : List A) (j : ℕ) 
   pub holds : f (get_or xs place d) ≡ true
   pub before : length (keep f (take place xs)) ≡ j
 
-pub keep-from : {A : Type 0} (f : A → Bool) (d : A) (xs : List A) (j : ℕ) → j < length (keep f xs) → Sifted f d xs j
+pub keep_from : {A : Type 0} (f : A → Bool) (d : A) (xs : List A) (j : ℕ) → j < length (keep f xs) → Sifted f d xs j
 unfolding keep
-keep-from f d [] j h = absurd (not-suc-le-zero h)
-keep-from {A = A} f d (x ∷ xs) j h = step (f x) refl j h (λ i l. keep-from f d xs i l)
+keep_from f d [] j h = absurd (not-suc-le-zero h)
+keep_from {A = A} f d (x ∷ xs) j h = step (f x) refl j h (λ i l. keep_from f d xs i l)
   where
     behind : (b : Bool) (j : ℕ) → f x ≡ b → Sifted f d xs j → Sifted f d (x ∷ xs) (pick b (suc j) j)
     behind b j e s = record {
@@ -68,10 +68,10 @@ mapped_from f d (x ∷ xs) z h =
     (λ e. let i = mapped_from f d xs z e in (suc i.0, omega (arith, i.1), i.2))
 
 -- a member of the whole is one of a piece
-pub flat-from : (f : ℕ → List ℕ) (ms : List ℕ) (z : ℕ) → member z (flat f ms) ≡ true → (m : ℕ) × (member m ms ≡ true) × (member z (f m) ≡ true)
+pub flat_from : (f : ℕ → List ℕ) (ms : List ℕ) (z : ℕ) → member z (flat f ms) ≡ true → (m : ℕ) × (member m ms ≡ true) × (member z (f m) ≡ true)
 unfolding flat
-flat-from f [] z h = absurd (false≢true (sym (no_member z) ∙ h))
-flat-from f (k ∷ ms) z h =
+flat_from f [] z h = absurd (false≢true (sym (no_member z) ∙ h))
+flat_from f (k ∷ ms) z h =
     either_of (member z (f k)) (member z (flat f ms)) (sym (member-append z (f k) (flat f ms)) ∙ h)
     (λ e. (k, member_cons k k ms ∙ either_left (eqb k k) (member k ms) (eq-eqb k k refl), e))
-    (λ e. let i = flat-from f ms z e in (i.0, member_cons i.0 k ms ∙ either_right (eqb i.0 k) (member i.0 ms) i.1, i.2))
+    (λ e. let i = flat_from f ms z e in (i.0, member_cons i.0 k ms ∙ either_right (eqb i.0 k) (member i.0 ms) i.1, i.2))

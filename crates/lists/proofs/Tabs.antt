@@ -53,9 +53,9 @@ gather-tab f g zero = refl
 gather-tab f g (suc n) = simp (flat_append, gather-tab f g n, append-nil)
 
 -- one more turn
-pub select-more : (f : ℕ → Bool) (n : ℕ) {b : Bool} → f n ≡ b → select f (n + 1) ≡ select f n ++ pick b (n ∷ []) []
+pub select_more : (f : ℕ → Bool) (n : ℕ) {b : Bool} → f n ≡ b → select f (n + 1) ≡ select f n ++ pick b (n ∷ []) []
 unfolding select
-select-more f n e = rw (add-one, e)
+select_more f n e = rw (add-one, e)
 
 pub some_turn : (f : ℕ → Bool) (n : ℕ) {b : Bool} → f n ≡ b → some f (n + 1) ≡ pick b true (some f n)
 unfolding some

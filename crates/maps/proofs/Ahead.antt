@@ -13,7 +13,7 @@ use borrow.Author.Tests.{ltb-true, lt-ltb, eqb-true, eqb-false, eq-eqb, ne_eqb}
 use Rattle.lists.specs.Pick.{both}
 use Rattle.lists.proofs.Each.{both_hold}
 use Rattle.lists.proofs.Choices.{not_second}
-use Rattle.lists.proofs.Ascending.{Rises, rises-from}
+use Rattle.lists.proofs.Ascending.{Rises, rises_from}
 use Rattle.rules.specs.Lists.{new_id, old_id}
 use Rattle.rules.specs.Maps.{entry_at}
 
@@ -32,7 +32,7 @@ unfolding entry_at
 below_ids f j [] r = refl
 below_ids f j (e ∷ es) r =
     rw (ne_eqb j (new_id e) (λ q. omega (arith, r.0)))
-    (below_ids f j es (rises-from (suc j) (suc (new_id e)) (map (λ d. new_id d) es) (omega (arith, r.0)) r.1))
+    (below_ids f j es (rises_from (suc j) (suc (new_id e)) (map (λ d. new_id d) es) (omega (arith, r.0)) r.1))
 
 module _ {f : ℕ → ℕ} {es : List ℕ} {k j : ℕ} (a : Ahead f es k j) where
   rest : k < length es → drop k es ≡ get_or es k 0 ∷ drop (k + 1) es
@@ -40,9 +40,9 @@ module _ {f : ℕ → ℕ} {es : List ℕ} {k j : ℕ} (a : Ahead f es k j) wher
 
   -- the next of the list has the id j
   module _ (h : k < length es) (e : new_id (get_or es k 0) ≡ j) where
-    pub listed-entry : entry_at f es j ≡ f (old_id (get_or es k 0))
+    pub listed_entry : entry_at f es j ≡ f (old_id (get_or es k 0))
     unfolding entry_at
-    listed-entry = a.left j (omega arith) ∙ rw (rest h, eq-eqb j (new_id (get_or es k 0)) (sym e))
+    listed_entry = a.left j (omega arith) ∙ rw (rest h, eq-eqb j (new_id (get_or es k 0)) (sym e))
 
     pub ahead_listed : Ahead f es (k + 1) (j + 1)
     unfolding entry_at
@@ -84,7 +84,7 @@ module _ {f : ℕ → ℕ} {es : List ℕ} {k id : ℕ} (a : Ahead f es k id) {b
       (ltb-true k (length es) p.0, eqb-true (new_id (get_or es k 0)) id p.1)
 
   pub turn_listed : {v : ℕ} → b ≡ true → v ≡ f (old_id (get_or es k 0)) → Turn f es id v (k + 1)
-  turn_listed h e = let n = is_next h in record { is = e ∙ sym (listed-entry a n.0 n.1); ahead = ahead_listed a n.0 n.1 }
+  turn_listed h e = let n = is_next h in record { is = e ∙ sym (listed_entry a n.0 n.1); ahead = ahead_listed a n.0 n.1 }
 
   pub turn_gap : {v : ℕ} → b ≡ false → v ≡ 0 → Turn f es id v k
   turn_gap h e =

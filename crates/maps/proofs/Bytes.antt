@@ -13,18 +13,18 @@ use lib.Dec.{ltb, eqb}
 use borrow.Author.Tests.{ne_eqb}
 use Rattle.lists.specs.Pick.{pick}
 use Rattle.lists.specs.Gather.{gather}
-use Rattle.lists.proofs.Pieces.{gather_none, gather-more, gather-length}
+use Rattle.lists.proofs.Pieces.{gather_none, gather_more, gather-length}
 use Rattle.lists.proofs.Ascending.{Rises}
 use Rattle.lists.proofs.Choices.{decided}
 use Rattle.lists.proofs.Parts.{all_laid}
 use Rattle.cells.specs.Be.{be_bytes, Wrote}
-use Rattle.cells.proofs.Cells.{length-be_bytes, wrote_cat, wrote-all}
+use Rattle.cells.proofs.Cells.{length-be_bytes, wrote_cat, wrote_all}
 use Rattle.opentype.specs.Table.{map_at}
 use Rattle.rules.specs.Lists.{Run, new_id}
 use Rattle.rules.specs.Numbering.{present, pair_of, new_outer, new_inner}
 use Rattle.rules.specs.Maps.{is_written, map_plan, entry_size, wide_entry, new_entry, planned_map, map_bytes}
 use Rattle.laws.specs.Rows.{row_inside}
-use Rattle.laws.specs.GlyphPairs.{pow-bytes}
+use Rattle.laws.specs.GlyphPairs.{pow_bytes}
 use Rattle.laws.specs.Packed.{map-length}
 use Rattle.rules.specs.Maps.{MapPlan as PlanOf}
 use Rattle.readers.proofs.Maps.{shifted_one}
@@ -36,10 +36,10 @@ use Rattle.maps.proofs.Ahead.{Ahead, ahead_none, Turn}
 
 -- ---- one entry
 
-pub entry-is : (bits : ℕ) (rs : List Run) (pair : ℕ) {o i : ℕ} → bits < 32 → o ≡ new_outer rs pair → i ≡ new_inner rs pair
+pub entry_is : (bits : ℕ) (rs : List Run) (pair : ℕ) {o i : ℕ} → bits < 32 → o ≡ new_outer rs pair → i ≡ new_inner rs pair
     → o * (1 * 2 ^ bits % 4294967296) + i ≡ new_entry bits rs pair
 unfolding new_entry
-entry-is bits rs pair h p q = rw (shifted_one bits h, p, q)
+entry_is bits rs pair h p q = rw (shifted_one bits h, p, q)
 
 -- ---- the entries, laid by new id
 
@@ -71,7 +71,7 @@ module _ {rs : List Run} {t : List ℕ} {at : ℕ} {es : List ℕ} {p : MapPlan}
   entered_more {v} {next} {new} turn w = record {
     up_to = rw (add-one id, suc-mul) (omega (arith, l.up_to));
     same = ap (λ (xs : List ℕ). length xs) w.is ∙ (length-sets out to (be_bytes p.size v) ∙ l.same);
-    wrote = rw gather-more (wrote_cat l.wrote (rw turn.is at w) (rw (gather-length (entry_piece rs t at es p) p.size (λ j. length-be_bytes p.size _) id) l.up_to));
+    wrote = rw gather_more (wrote_cat l.wrote (rw turn.is at w) (rw (gather-length (entry_piece rs t at es p) p.size (λ j. length-be_bytes p.size _) id) l.up_to));
     ahead = turn.ahead;
   }
 
@@ -136,7 +136,7 @@ module _ {n : ℕ} {w t es : List ℕ} {m : ℕ} {p : MapPlan} (r : Ready n w t 
         some_bits = rw planned_bits q.some_bits;
         few_bits = rw planned_bits q.few_bits;
         few_entries = d.few;
-        each = λ k l. rw (e, planned_bits) (lt_of_lt_of_le (q.entry k l) (rw (pow-bytes (entry_size plan)) room));
+        each = λ k l. rw (e, planned_bits) (lt_of_lt_of_le (q.entry k l) (rw (pow_bytes (entry_size plan)) room));
       }
 
   pub map_put : {at : ℕ} {old out : List ℕ} → at ≡ map_at t m → length old ≡ length_of p
@@ -147,4 +147,4 @@ module _ {n : ℕ} {w t es : List ℕ} {m : ℕ} {p : MapPlan} (r : Ready n w t 
       let all = map_bytes t (kept_in n w) es m in
       let y : Wrote old 0 all out = rw is_on (rw (e, planned_count, planned_bits, planned_size) at x) in
       let l = plan_length_lem d in
-      wrote-all y (omega arith) ∙ all_laid all old (length all) (omega arith)
+      wrote_all y (omega arith) ∙ all_laid all old (length all) (omega arith)

@@ -20,14 +20,14 @@ pub record Alike (pair : ℕ → ℕ) (es : List ℕ) (q i : ℕ) : Type 0 where
   pub inside : i < length es
   pub each : (k : ℕ) → i ≤ k → k < length es → q ≡ pair (old_id (get_or es k 0))
 
-pub alike-last : (pair : ℕ → ℕ) (es : List ℕ) {q : ℕ} → 0 < length es → q ≡ pair (old_id (get_or es (length es - 1) 0)) → Alike pair es q (length es - 1)
-alike-last pair es {q} h e = record {
+pub alike_last : (pair : ℕ → ℕ) (es : List ℕ) {q : ℕ} → 0 < length es → q ≡ pair (old_id (get_or es (length es - 1) 0)) → Alike pair es q (length es - 1)
+alike_last pair es {q} h e = record {
   inside = omega arith;
   each = λ k l g. let s : k ≡ length es - 1 = omega arith in rw s e;
 }
 
-pub alike-more : {pair : ℕ → ℕ} {es : List ℕ} {q i : ℕ} → Alike pair es q i → 0 < i → q ≡ pair (old_id (get_or es (i - 1) 0)) → Alike pair es q (i - 1)
-alike-more {pair} {es} {q} {i} a h e = record {
+pub alike_more : {pair : ℕ → ℕ} {es : List ℕ} {q i : ℕ} → Alike pair es q i → 0 < i → q ≡ pair (old_id (get_or es (i - 1) 0)) → Alike pair es q (i - 1)
+alike_more {pair} {es} {q} {i} a h e = record {
   inside = omega (arith, a.inside);
   each = λ k l g. elim (ℕ_discrete k (i - 1)) [
     | yes s ↦ rw s e
@@ -48,8 +48,8 @@ whole pair (e ∷ es) {q} a =
     rw (each_all (λ d. eqb (pair (old_id e)) (pair (old_id d))) es
     (λ k l. eq-eqb (pair (old_id e)) (pair (old_id (get_or es k 0))) (sym (a.each 0 (omega arith) (omega arith)) ∙ a.each (suc k) (omega arith) (omega arith))))
 
-pub count-all : {pair : ℕ → ℕ} {es : List ℕ} {q i : ℕ} → Alike pair es q i → i ≤ 0 → count_of pair es ≡ new_id (get_or es 0 0) + 1
-count-all {pair} {es} {i = i} a h = let e : i ≡ 0 = omega arith in whole pair es (rw e at a)
+pub count_all : {pair : ℕ → ℕ} {es : List ℕ} {q i : ℕ} → Alike pair es q i → i ≤ 0 → count_of pair es ≡ new_id (get_or es 0 0) + 1
+count_all {pair} {es} {i = i} a h = let e : i ≡ 0 = omega arith in whole pair es (rw e at a)
 
 alike_tail : {pair : ℕ → ℕ} {es : List ℕ} {q i : ℕ} (e : ℕ) → Alike pair (e ∷ es) q (suc i) → Alike pair es q i
 alike_tail e a = record { inside = omega (arith, a.inside); each = λ k l g. a.each (suc k) (omega arith) (omega arith) }

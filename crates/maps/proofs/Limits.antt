@@ -16,7 +16,7 @@ use Rattle.lists.proofs.Places.{at_place, place_least}
 use Rattle.rules.specs.Lists.{outer, runs}
 use Rattle.rules.specs.Numbering.{new_inner}
 use Rattle.laws.specs.Outers.{Climbs, climbs_not_fall}
-use Rattle.laws.specs.Pairs.{outers-climb}
+use Rattle.laws.specs.Pairs.{outers_climb}
 use Rattle.numbering.specs.Numbered.{start_of, used, Numbered}
 use Rattle.numbering.proofs.Starts.{start_nothing, start_none, inner-place, used-member}
 use Rattle.maps.specs.Plans.{Bounds}
@@ -50,7 +50,7 @@ from_start b o (q ∷ qs) zero c h i =
 from_start b o (q ∷ qs) (suc k) c h i =
     elim (dec_lt (outer q) o) [
       | yes l ↦ from_start (outer q) o qs k c.1 (omega (arith, start_next q qs o l)) (omega arith)
-      | no g ↦ omega (arith, outers-climb (q ∷ qs) (climbs_not_fall b (q ∷ qs) c) 0 (suc k) (omega arith) i)
+      | no g ↦ omega (arith, outers_climb (q ∷ qs) (climbs_not_fall b (q ∷ qs) c) 0 (suc k) (omega arith) i)
     ]
 
 -- ---- one pair
@@ -93,8 +93,8 @@ module _ {w : List ℕ} {n : ℕ} (d : Numbered w n) where
   its_used : (k : ℕ) → k < n → used (take n w) (outer (get_or w k 0)) ≡ true
   its_used k h = rw (← at k h) (used-member (get_or (take n w) k 0) (take n w) (member_at (take n w) k (omega (arith, size))))
 
-  pub outer-low : (k : ℕ) → k < n → outer (get_or w k 0) < 256
-  outer-low k h = d.low (outer (get_or w k 0)) (its_used k h)
+  pub outer_low : (k : ℕ) → k < n → outer (get_or w k 0) < 256
+  outer_low k h = d.low (outer (get_or w k 0)) (its_used k h)
 
   its_start : (k : ℕ) → k < n → get_or w (8192 + outer (get_or w k 0)) 0 ≡ start_of (take n w) (outer (get_or w k 0))
   its_start k h = d.starts (outer (get_or w k 0)) (its_used k h)
@@ -116,7 +116,7 @@ module _ {w : List ℕ} {n : ℕ} (d : Numbered w n) where
         inside = omega (arith, size);
         each = λ j a b. elim (dec_lt j end) [
           | yes h ↦ (let low = from_start 0 (outer (get_or w k 0)) ps j d.climbs (omega (arith, its_start k i)) b in
-              let high = rw (at k i) at (outers-climb ps (climbs_not_fall 0 ps d.climbs) j k (omega arith) (omega (arith, size))) in
+              let high = rw (at k i) at (outers_climb ps (climbs_not_fall 0 ps d.climbs) j k (omega arith) (omega (arith, size))) in
               let same : outer (get_or ps j 0) ≡ outer (get_or w k 0) = omega arith in
               omega (arith, rw same at (inner_before ps d.climbs j b), its_start k i))
           | no h ↦ omega (arith, l.each j (omega arith) b)

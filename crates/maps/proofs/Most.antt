@@ -10,7 +10,7 @@ use lib.Seq.{drop-cons}
 use Rattle.lists.specs.Search.{largest}
 use Rattle.lists.proofs.Largest.{largest_left}
 use Rattle.rules.specs.Maps.{bit_length, bits_for}
-use Rattle.laws.specs.Bits.{bits-climb}
+use Rattle.laws.specs.Bits.{bits_climb}
 
 -- most is the largest from place i on
 pub record Most (f : ℕ → ℕ) (xs : List ℕ) (i most : ℕ) : Type 0 where
@@ -22,9 +22,9 @@ module _ {f : ℕ → ℕ} {xs : List ℕ} where
   unfolding largest
   most_none = record { inside = le_refl (length xs); is = rw (drop_of_length-le xs (le_refl (length xs))) }
 
-  pub most-more : {i most v : ℕ} → Most f xs i most → 0 < i → v ≡ f (get_or xs (i - 1) 0) → Most f xs (i - 1) (max most v)
+  pub most_more : {i most v : ℕ} → Most f xs i most → 0 < i → v ≡ f (get_or xs (i - 1) 0) → Most f xs (i - 1) (max most v)
   unfolding largest
-  most-more {i} m h e =
+  most_more {i} m h e =
       let s : suc (i - 1) ≡ i = omega arith in
       let d = drop-cons xs (i - 1) 0 (omega (arith, m.inside)) ∙ ap (λ (k : ℕ). get_or xs (i - 1) 0 ∷ drop k xs) s in
       record { inside = omega (arith, m.inside); is = rw d (omega (arith, m.is)) }
@@ -41,8 +41,8 @@ module _ {f : ℕ → ℕ} {xs : List ℕ} where
 pub bits_full : {most top limit some full : ℕ} → most ≤ top → top ≤ limit → limit < 2 ^ 32 → full ≡ max 1 (32 - count_leading_zeros 32 limit)
     → some ≡ max 1 (32 - count_leading_zeros 32 most) → some ≡ full → full ≡ bits_for top
 unfolding bits_for bit_length
-bits_full {most} {top} {limit} h l fits f s e = omega (arith, bits-climb most top h (lt_of_le_of_lt l fits), bits-climb top limit l fits)
+bits_full {most} {top} {limit} h l fits f s e = omega (arith, bits_climb most top h (lt_of_le_of_lt l fits), bits_climb top limit l fits)
 
-pub bits-all : {most top bits : ℕ} → most ≡ top → bits ≡ max 1 (32 - count_leading_zeros 32 most) → bits ≡ bits_for top
+pub bits_all : {most top bits : ℕ} → most ≡ top → bits ≡ max 1 (32 - count_leading_zeros 32 most) → bits ≡ bits_for top
 unfolding bits_for bit_length
-bits-all e b = rw (← e) b
+bits_all e b = rw (← e) b

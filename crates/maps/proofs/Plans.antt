@@ -20,13 +20,13 @@ use Rattle.rules.specs.Lists.{Run, old_id, bad_glyphs}
 use Rattle.rules.specs.Open.{bad_map}
 use Rattle.rules.specs.Numbering.{present, counts, pair_of, kept_pairs, new_inner}
 use Rattle.rules.specs.Maps.{is_written, map_plan, count_of, bits_for, largest_inner, new_outer_bits, entry_size}
-use Rattle.laws.specs.Glyphs.{good-glyphs}
-use Rattle.laws.specs.Kept.{kept-member}
+use Rattle.laws.specs.Glyphs.{good_glyphs}
+use Rattle.laws.specs.Kept.{kept_member}
 use Rattle.laws.specs.Packed.{Packed, AllKept, packed}
 use Rattle.readers.specs.declared.map.Pair.{Pair}
 use Rattle.sources.specs.Pairs.{pair_at, Paired}
 use Rattle.numbering.specs.Numbered.{Among, Numbered, Renumbered, Checked}
-use Rattle.sources.proofs.Pairs.{map-good}
+use Rattle.sources.proofs.Pairs.{map_good}
 use Rattle.maps.specs.Plans.{kept_in, largest_at, Kept, Ready, Bounds, MapPlanned}
 
 -- a map of a table that passed its checks, with its kept pairs collected
@@ -34,10 +34,10 @@ pub ready : {maps count n m : ℕ} {w t es : List ℕ} → Checked maps count t 
     → Ready n w t es m
 ready {maps} {n = n} {m} {w} {t} {es} c g d e l = record {
   header = omega (arith, c.head);
-  usable = map-good maps t m c.usable l;
-  glyphs = good-glyphs es g;
+  usable = map_good maps t m c.usable l;
+  glyphs = good_glyphs es g;
   numbered = d;
-  kept = λ h k b. rw e (kept-member maps t es m k l h b);
+  kept = λ h k b. rw e (kept_member maps t es m k l h b);
 }
 
 -- ---- one pair, by its parts
@@ -74,9 +74,9 @@ not_written t rs es m h = record {
   short = omega arith;
 }
 
-pub some-listed : (t es : List ℕ) (m : ℕ) → is_written t es m ≡ true → 0 < length es
+pub some_listed : (t es : List ℕ) (m : ℕ) → is_written t es m ≡ true → 0 < length es
 unfolding is_written
-some-listed t es m h =
+some_listed t es m h =
     let n = eqb-false (length es) 0 (not-true (eqb (length es) 0) (both_hold (counts t m) (differ (length es) 0) h).1) in
     omega arith
 
@@ -96,7 +96,7 @@ module _ {n : ℕ} {w t es : List ℕ} {m : ℕ} (r : Ready n w t es m) (h : is_
         few = omega (arith, length-take n w, r.numbered.few);
         each = r.kept (both_hold (counts t m) (differ (length es) 0) h).0;
       } in
-      packed all bytes r.glyphs (some-listed t es m h) (not_second (present t m) (bad_map t (map_at t m)) r.usable)
+      packed all bytes r.glyphs (some_listed t es m h) (not_second (present t m) (bad_map t (map_at t m)) r.usable)
 
   pub planned : {at count bits outers : ℕ} → ((i : ℕ) → get_or t i 0 < 256) → at ≡ map_at t m → count ≡ count_of (λ g. pair_at t at g) es
       → bits ≡ bits_for (largest_at (kept_in n w) t at es) → outers ≡ pick (differ at 0) (outer_bits t at) 6 → outers ≤ 31

@@ -19,7 +19,7 @@ use Rattle.rules.specs.Columns.{plan_of, live}
 use Rattle.rules.specs.Lists.{inner}
 use Rattle.readers.specs.Opened.{Opened}
 use Rattle.readers.specs.declared.subtable.Subtable.{Subtable}
-use Rattle.laws.specs.Live.{any_order, some-kept}
+use Rattle.laws.specs.Live.{any_order, some_kept}
 use Rattle.laws.specs.Lengths.{size_at, length_planned}
 use Rattle.rows.specs.declared.Columns.{Columns}
 use Rattle.rows.specs.Area.{part, items, column_in, columns_in}
@@ -27,26 +27,26 @@ use Rattle.rows.specs.Length.{planned_length}
 use Rattle.rows.specs.Planned.{Planned}
 
 module _ {s : List ℕ} {at : ℕ} {is w : List ℕ} {r : Columns} (p : Planned s at is w r) where
-  columns-length : length (columns_in w r.wide r.narrow) ≡ r.wide + r.narrow
+  columns_length : length (columns_in w r.wide r.narrow) ≡ r.wide + r.narrow
   unfolding columns_in
-  columns-length = length-tab (λ j. column_in w r.wide j) (r.wide + r.narrow)
+  columns_length = length-tab (λ j. column_in w r.wide j) (r.wide + r.narrow)
 
-  column-there : (j : ℕ) → j < r.wide + r.narrow → get_or (columns_in w r.wide r.narrow) j 0 ≡ column_in w r.wide j
+  column_there : (j : ℕ) → j < r.wide + r.narrow → get_or (columns_in w r.wide r.narrow) j 0 ≡ column_in w r.wide j
   unfolding columns_in
-  column-there j h = get_d_tab (λ k. column_in w r.wide k) 0 (r.wide + r.narrow) j h
+  column_there j h = get_d_tab (λ k. column_in w r.wide k) 0 (r.wide + r.narrow) j h
 
-  pub any-kept : (g : ℕ → Bool) → any g (columns_in w r.wide r.narrow) ≡ some (λ c. both (g c) (live s at is c)) (column_count s at)
-  any-kept g = ap (any g) p.kept ∙ any_order s at is g
+  pub any_kept : (g : ℕ → Bool) → any g (columns_in w r.wide r.narrow) ≡ some (λ c. both (g c) (live s at is c)) (column_count s at)
+  any_kept g = ap (any g) p.kept ∙ any_order s at is g
 
   -- a test that fails of every live column fails of every kept one
   pub no_kept : (g : ℕ → Bool) → some (λ c. both (g c) (live s at is c)) (column_count s at) ≡ false → (j : ℕ) → j < r.wide + r.narrow → g (column_in w r.wide j) ≡ false
-  no_kept g e j h = ap g (sym (column-there j h)) ∙ any-not g 0 (columns_in w r.wide r.narrow) j (any-kept g ∙ e) (rw columns-length h)
+  no_kept g e j h = ap g (sym (column_there j h)) ∙ any-not g 0 (columns_in w r.wide r.narrow) j (any_kept g ∙ e) (rw columns_length h)
 
   pub a_kept : (g : ℕ → Bool) (j : ℕ) → j < r.wide + r.narrow → g (column_in w r.wide j) ≡ true → some (λ c. both (g c) (live s at is c)) (column_count s at) ≡ true
-  a_kept g j h e = sym (any-kept g) ∙ any_at g 0 (columns_in w r.wide r.narrow) j (rw columns-length h) (ap g (column-there j h) ∙ e)
+  a_kept g j h e = sym (any_kept g) ∙ any_at g 0 (columns_in w r.wide r.narrow) j (rw columns_length h) (ap g (column_there j h) ∙ e)
 
-  pub live-kept : ltb 0 (r.wide + r.narrow) ≡ some (λ c. live s at is c) (column_count s at)
-  live-kept = rw (p.wide, p.narrow) (some-kept s at is)
+  pub live_kept : ltb 0 (r.wide + r.narrow) ≡ some (λ c. live s at is c) (column_count s at)
+  live_kept = rw (p.wide, p.narrow) (some_kept s at is)
 
   pub planned_length_lem : planned_length r.long r.wide r.narrow (length is) ≡ size_at s at is
   unfolding planned_length size_at
@@ -58,20 +58,20 @@ pub length-items : (w : List ℕ) (from to : ℕ) → from ≤ to → to ≤ len
 length-items w from to a b = length-map (λ p. inner p) (part w from to) ∙ length-take-le (to - from) (drop from w) (rw length-drop (omega arith))
 
 -- a row has at most 16,384 bytes
-length-small : (r : Columns) (items : ℕ) → r.wide + r.narrow ≤ 4096 → planned_length r.long r.wide r.narrow items ≤ 8198 + 16384 * items
+length_small : (r : Columns) (items : ℕ) → r.wide + r.narrow ≤ 4096 → planned_length r.long r.wide r.narrow items ≤ 8198 + 16384 * items
 unfolding planned_length
-length-small r items h = omega (arith, mul-le-mul_left items (row r.long))
+length_small r items h = omega (arith, mul-le-mul_left items (row r.long))
   where
     row : (l : Bool) → r.wide * word_size l + r.narrow * rest_size l ≤ 16384
     row true = omega arith
     row false = omega arith
 
 module _ {s : List ℕ} {t : Subtable} {is w : List ℕ} {r : Columns} (o : Opened s t) (p : Planned s t.at is w r) where
-  pub few-kept : r.wide + r.narrow ≤ 4096
-  few-kept = omega (arith, p.few, o.columns, o.few)
+  pub few_kept : r.wide + r.narrow ≤ 4096
+  few_kept = omega (arith, p.few, o.columns, o.few)
 
   pub bytes_small : {bytes : ℕ} (items : ℕ) → bytes ≡ planned_length r.long r.wide r.narrow items → bytes ≤ 8198 + 16384 * items
-  bytes_small items e = rw e (length-small r items few-kept)
+  bytes_small items e = rw e (length_small r items few_kept)
 
   pub bytes_are : {bytes : ℕ} (items : ℕ) → bytes ≡ planned_length r.long r.wide r.narrow items → length is ≡ items → bytes ≡ size_at s t.at is
   bytes_are items e l = e ∙ rw (← l) (planned_length_lem p)

@@ -24,8 +24,8 @@ use Rattle.rules.specs.Open.{bad_store, absent_subtable, bad_subtable}
 use Rattle.rules.specs.Regions.{uses_region, is_used}
 use Rattle.rules.specs.StoreCut.{some_column, some_delta, bad_region_index, middle_width, subtables_or}
 use Rattle.laws.specs.Lengths.{sum, size_at, sizes}
-use Rattle.laws.specs.Pairs.{outers-climb}
-use Rattle.laws.specs.Inside.{store-inside}
+use Rattle.laws.specs.Pairs.{outers_climb}
+use Rattle.laws.specs.Inside.{store_inside}
 use Rattle.laws.specs.Usable.{in_array}
 use Rattle.pairs.specs.Pairs.{RunEnd}
 use Rattle.pairs.proofs.Laws.{run_left}
@@ -36,7 +36,7 @@ use Rattle.rows.specs.declared.Columns.{Columns}
 use Rattle.rows.specs.Area.{part, items, used_in, columns_in}
 use Rattle.rows.specs.Planned.{Planned, Marked}
 use Rattle.measure.specs.Measured.{NoneUsed, with_subtable, Step, Fits, Left, Whole}
-use Rattle.measure.proofs.Kept.{any-kept, live-kept}
+use Rattle.measure.proofs.Kept.{any_kept, live_kept}
 
 -- ---- one subtable
 
@@ -53,12 +53,12 @@ module _ (s : List ℕ) (at : ℕ) (is w w₁ w₂ : List ℕ) (p : Columns) (m 
       record {
         count = refl;
         length = rw e;
-        live = rw (live-kept q);
-        index = rw (b, g, any-kept q (λ c. leb (region_count s) (region_index s at c)));
+        live = rw (live_kept q);
+        index = rw (b, g, any_kept q (λ c. leb (region_count s) (region_index s at c)));
         middle = rw q.middle;
         used = λ r h. ap (λ (ws : List ℕ). has ws r) (part_same (set w₂ (8832 + m.count) bytes) w₂ 8832 (take-set-le 8832 w₂ (8832 + m.count) bytes (omega arith)) 8704 128 (omega arith))
             ∙ k.used r (rw g h)
-            ∙ rw (part_same w₁ w 12288 same 8704 128 (omega arith), any-kept q (λ c. eqb (region_index s at c) r));
+            ∙ rw (part_same w₁ w 12288 same 8704 128 (omega arith), any_kept q (λ c. eqb (region_index s at c) r));
         noted = rw (drop-set-add 8832 w₂ m.count bytes, add-one, take-suc-set (drop 8832 w₂) m.count bytes room, k.high, part_same w₁ w 12288 same 8832 m.count (omega arith), e);
         low = take-set-le 8704 w₂ (8832 + m.count) bytes (omega arith) ∙ k.low ∙ front_same w₁ w 12288 same 8704 (omega arith);
       }
@@ -159,13 +159,13 @@ module _ {s w : List ℕ} {m : Measure} {n at end : ℕ} (h : n ≤ length w) (t
       rw (get_or-take n w at 0 (omega (arith, e.one.after, e.inside))) at (t.next (omega (arith, e.one.after, e.inside)))
 
   pub turn_few : {u : Subtable} → bad_store s ≡ false → Usable s (outer (get_or w at 0)) u → m.count < 256
-  turn_few b u = omega (arith, below, in_array s (outer (get_or w at 0)) u.there, (store-inside s b).few)
+  turn_few b u = omega (arith, below, in_array s (outer (get_or w at 0)) u.there, (store_inside s b).few)
 
   later : outers_fall (take n w) ≡ false → end < length (take n w) → m.count + 1 ≤ outer (get_or (take n w) end 0)
   later f g =
       let l = length-take-le n w h in
       let k : end < n = omega arith in
-      let c = outers-climb (take n w) f at end (omega (arith, e.one.after)) g in
+      let c = outers_climb (take n w) f at end (omega (arith, e.one.after)) g in
       let d = rw (get_or-take n w at 0 (omega (arith, e.one.after)), get_or-take n w end 0 k) at c in
       rw (get_or-take n w end 0 k) (omega (arith, below, d, e.other k))
 

@@ -66,7 +66,7 @@ fn measure_run(
     requires regions_value { (regions ≡ region_count s.now) × (regions ≤ 4096) }
     requires fits { Fits m from × (m.count < 256) }
     ensures step { Step s.now t.at (items (part work.old from to)) work.old work.new m result }
-    ensures fits_2 { Fits result to }
+    ensures fits_after { Fits result to }
 {
     let p = plan_columns(work, s, t, from, to);
     let bad = mark_regions(work, s, t, p, regions);

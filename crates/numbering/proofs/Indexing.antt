@@ -18,8 +18,8 @@ start_noted w i v = take-set-le 9088 w (9088 + i) v (omega arith)
 pub shift_noted : (w : List ℕ) (v : ℕ) → take 9088 (set w 9345 v) ≡ take 9088 w
 shift_noted w v = take-set-le 9088 w 9345 v (omega arith)
 
-pub place-noted : (w : List ℕ) (i v : ℕ) → take 9088 (set w (12288 + i) v) ≡ take 9088 w
-place-noted w i v = take-set-le 9088 w (12288 + i) v (omega arith)
+pub place_noted : (w : List ℕ) (i v : ℕ) → take 9088 (set w (12288 + i) v) ≡ take 9088 w
+place_noted w i v = take-set-le 9088 w (12288 + i) v (omega arith)
 
 -- a pair of the list, as it stands while the index is made
 pub outer_at_lem : {w : List ℕ} {n : ℕ} (k : ℕ) (v : List ℕ) → Numbered w n → take 9088 v ≡ take 9088 w → k < n → outer (get_or v k 0) < 256

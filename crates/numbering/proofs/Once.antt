@@ -9,7 +9,7 @@ use Rattle.lists.specs.Search.{place}
 use Rattle.rules.specs.Lists.{twice}
 use Rattle.laws.specs.Once.{only_place}
 
-pub is-place : (x h n : ℕ) (w : List ℕ) → n ≤ length w → twice (take n w) ≡ false → h < n → get_or w h 0 ≡ x → h ≡ place x (take n w)
-is-place x h n w fits o l e =
+pub is_place : (x h n : ℕ) (w : List ℕ) → n ≤ length w → twice (take n w) ≡ false → h < n → get_or w h 0 ≡ x → h ≡ place x (take n w)
+is_place x h n w fits o l e =
     let k : h < length (take n w) = rw (length-take-le n w fits) l in
     only_place x h (take n w) o k (get_or-take n w h 0 l ∙ e)

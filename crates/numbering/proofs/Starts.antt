@@ -17,10 +17,10 @@ use Rattle.lists.proofs.Each.{both_hold}
 use Rattle.lists.proofs.Places.{at_place, place-select}
 use Rattle.lists.proofs.Members.{no_member, member_cons, member-map, member-keep, length-map}
 use Rattle.lists.proofs.Sifted.{keep_append}
-use Rattle.lists.proofs.Ascending.{keep_parts, rises-same, rises-select, member-select}
+use Rattle.lists.proofs.Ascending.{keep_parts, rises_same, rises_select, member-select}
 use Rattle.rules.specs.Lists.{outer, inner, runs}
 use Rattle.rules.specs.Numbering.{new_outer, new_inner}
-use Rattle.laws.specs.Outers.{Climbs, outers_of, rises-runs, member-outers, inners_of_lem}
+use Rattle.laws.specs.Outers.{Climbs, outers_of, rises_runs, member_outers, inners_of_lem}
 use Rattle.numbering.specs.Numbered.{start_of, used}
 
 -- ---- the start of a run
@@ -60,8 +60,8 @@ climbs_above b p (q ∷ qs) c h =
 
 -- ---- the new inner: the place in the run
 
-same-pair : (p q : ℕ) → outer q ≡ outer p → eqb (inner p) (inner q) ≡ eqb p q
-same-pair p q e =
+same_pair : (p q : ℕ) → outer q ≡ outer p → eqb (inner p) (inner q) ≡ eqb p q
+same_pair p q e =
     same_test (eqb (inner p) (inner q)) (eqb p q)
     (λ h. let i = eqb-true (inner p) (inner q) h in eq-eqb p q (omega arith))
     (λ h. eq-eqb (inner p) (inner q) (ap (λ (x : ℕ). inner x) (eqb-true p q h)))
@@ -80,7 +80,7 @@ run-place b p (q ∷ qs) c h =
           rw (ne_eqb (outer p) (outer q) (λ e. omega arith), start_step q qs (outer p), lt-ltb (outer q) (outer p) l) i)
       | no g ↦ (let e : outer q ≡ outer p = omega arith in
           let z = start_none (outer q) (outer p) qs c.1 (omega arith) in
-          rw (eq-eqb (outer p) (outer q) (sym e), start_step q qs (outer p), le-ltb (outer q) (outer p) (omega arith), z, same-pair p q e)
+          rw (eq-eqb (outer p) (outer q) (sym e), start_step q qs (outer p), le-ltb (outer q) (outer p) (omega arith), z, same_pair p q e)
           (elim (ℕ_discrete p q) [
             | yes s ↦ rw (eq-eqb p q s)
             | no s ↦ (let i = run-place (outer q) p qs c.1 (behind p q qs s h) in rw (ne_eqb p q s) (ap suc (rw z at i)))
@@ -102,9 +102,9 @@ pub inner-place : (p : ℕ) (ps : List ℕ) → Climbs 0 ps → member p ps ≡ 
 unfolding new_inner
 inner-place p ps c h = ap (λ is. place (inner p) is) (inners_of_lem (outer p) 0 ps c) ∙ run-place 0 p ps c h
 
-pub inner-short : (p : ℕ) (ps : List ℕ) → Climbs 0 ps → member p ps ≡ true → new_inner (runs ps) p < length ps
+pub inner_short : (p : ℕ) (ps : List ℕ) → Climbs 0 ps → member p ps ≡ true → new_inner (runs ps) p < length ps
 unfolding new_inner
-inner-short p ps c h =
+inner_short p ps c h =
     let mine : ℕ → Bool = λ q. eqb (outer p) (outer q) in
     let m = member-map (λ q. inner q) p (keep mine ps) (member-keep mine p ps ∙ both_of (mine p) (member p ps) (eq-eqb (outer p) (outer p) refl) h) in
     rw (inners_of_lem (outer p) 0 ps c) (omega (arith, (at_place (inner p) 0 (map (λ q. inner q) (keep mine ps)) m).0, length-map (λ q. inner q) (keep mine ps), keep_parts mine ps))
@@ -120,8 +120,8 @@ unfolding new_outer used
 outer-rank n p ps c low h =
     let u = used-member p ps h in
     let same : outers_of (runs ps) ≡ select (used ps) n
-    = rises-same 0 0 (outers_of (runs ps)) (select (used ps) n) (rises-runs 0 ps c) (rises-select (used ps) n)
-    (λ z. member-outers z ps ∙ (same_test (used ps z) (both (ltb z n) (used ps z))
+    = rises_same 0 0 (outers_of (runs ps)) (select (used ps) n) (rises_runs 0 ps c) (rises_select (used ps) n)
+    (λ z. member_outers z ps ∙ (same_test (used ps z) (both (ltb z n) (used ps z))
     (λ e. both_of (ltb z n) (used ps z) (lt-ltb z n (low z e)) e) (λ e. (both_hold (ltb z n) (used ps z) e).1)
     ∙ sym (member-select (used ps) z n))) in
     ap (λ os. place (outer p) os) same ∙ place-select (used ps) (outer p) n (low (outer p) u) u

@@ -8,7 +8,7 @@ use lib.Seq.{take_at, take_all, length-take-le}
 use borrow.Rule.Slice.PartMut.{mid_of, put_mid, mid_len, same_len_mid}
 use Rattle.lists.proofs.Parts.{all_laid}
 use Rattle.cells.specs.Be.{Wrote}
-use Rattle.cells.proofs.Cells.{wrote-all}
+use Rattle.cells.proofs.Cells.{wrote_all}
 
 -- the first `at` bytes of out, with what is left, are the whole
 pub record Filled (out : List ℕ) (at : ℕ) (rest whole : List ℕ) : Type 0 where
@@ -48,5 +48,5 @@ filled_all {out} {at} {whole} f =
     sym (take_all at out (omega (arith, f.same, ap length e))) ∙ e
 
 -- a part that is written whole
-pub wrote-whole : {l n xs : List ℕ} → Wrote l 0 xs n → length l ≡ length xs → n ≡ xs
-wrote-whole {l} {n} {xs} w e = wrote-all w (omega arith) ∙ all_laid xs l (length xs) (omega arith)
+pub wrote_whole : {l n xs : List ℕ} → Wrote l 0 xs n → length l ≡ length xs → n ≡ xs
+wrote_whole {l} {n} {xs} w e = wrote_all w (omega arith) ∙ all_laid xs l (length xs) (omega arith)

@@ -13,7 +13,7 @@ use Rattle.opentype.specs.Store.{subtable_at}
 use Rattle.rules.specs.Lists.{runs, outer, outers_fall}
 use Rattle.rules.specs.Regions.{used_regions}
 use Rattle.rules.specs.Rewrite.{subtable_bytes}
-use Rattle.laws.specs.Inside.{regions-inside}
+use Rattle.laws.specs.Inside.{regions_inside}
 use Rattle.laws.specs.Lengths.{sum, sizes, size_at}
 use Rattle.pairs.specs.Pairs.{RunEnd}
 use Rattle.pairs.proofs.Laws.{run_left}
@@ -21,7 +21,7 @@ use Rattle.rows.specs.Area.{part, items, used_of}
 use Rattle.plan.specs.Layout.{Passed}
 use Rattle.objects.specs.Runs.{run_in, RunReady}
 use Rattle.objects.proofs.Lists.{noted_at}
-use Rattle.objects.proofs.Runs.{Written, written_none, written-ready, written-size, written-there, written_room, written-more, written_all, used_are, length_run}
+use Rattle.objects.proofs.Runs.{Written, written_none, written_ready, written_size, written_there, written_room, written_more, written_all, used_are, length_run}
 
 -- the runs of the pairs before a place are written: k subtables, up to the place next of the output
 pub record Going (s w₀ : List ℕ) (n : ℕ) (w out : List ℕ) (at k next : ℕ) : Type 0 where
@@ -32,11 +32,11 @@ pub record Going (s w₀ : List ℕ) (n : ℕ) (w out : List ℕ) (at k next : �
 pub going_first : {s : List ℕ} (w₀ : List ℕ) (n : ℕ) {out : List ℕ} → Passed s (take n w₀) w₀ → length out ≡ sum (sizes s (runs (take n w₀))) → Going s w₀ n w₀ out 0 0 0
 going_first w₀ n p l = record { same = refl; inside = omega arith; left = written_none p.usable p.named p.used l }
 
-pub pairs-few : {s : List ℕ} (w₀ : List ℕ) (n : ℕ) → Passed s (take n w₀) w₀ → n ≤ 8192
-pairs-few w₀ n p = omega (arith, p.area, p.pairs_fit, length-take n w₀)
+pub pairs_few : {s : List ℕ} (w₀ : List ℕ) (n : ℕ) → Passed s (take n w₀) w₀ → n ≤ 8192
+pairs_few w₀ n p = omega (arith, p.area, p.pairs_fit, length-take n w₀)
 
 pub going_climb : {s w₀ : List ℕ} {n : ℕ} {w out : List ℕ} {at k next : ℕ} → Passed s (take n w₀) w₀ → Going s w₀ n w out at k next → outers_fall (take n w) ≡ false
-going_climb {s} {w₀} {n} {w} p g = rw (front_same w w₀ 12288 g.same n (omega (arith, pairs-few w₀ n p))) p.climb
+going_climb {s} {w₀} {n} {w} p g = rw (front_same w w₀ 12288 g.same n (omega (arith, pairs_few w₀ n p))) p.climb
 
 -- the next run, and the part of the output that its subtable goes to
 pub record RunPart (s w out : List ℕ) (at end k next : ℕ) : Type 0 where
@@ -49,34 +49,34 @@ pub record RunPart (s w out : List ℕ) (at end k next : ℕ) : Type 0 where
 
 module _ {s : List ℕ} (w₀ : List ℕ) {n : ℕ} {w out : List ℕ} {at k next end : ℕ} (p : Passed s (take n w₀) w₀) (few : length (runs (take n w₀)) ≤ 256)
     (noted : take (length (runs (take n w₀))) (drop 8832 w₀) ≡ sizes s (runs (take n w₀))) (area : length w ≡ 16384) (g : Going s w₀ n w out at k next) (r : RunEnd w n at end) where
-  pairs-same : take n w ≡ take n w₀
-  pairs-same = front_same w w₀ 12288 g.same n (omega (arith, pairs-few w₀ n p))
+  pairs_same : take n w ≡ take n w₀
+  pairs_same = front_same w w₀ 12288 g.same n (omega (arith, pairs_few w₀ n p))
 
   first : Written s (runs (take n w₀)) (run_in w at end ∷ runs (drop end (take n w₀))) (used_regions s (runs (take n w₀))) w out k next
-  first = rw (← pairs-same, ← run_left w n at end (omega (arith, pairs-few w₀ n p)) r, pairs-same) g.left
+  first = rw (← pairs_same, ← run_left w n at end (omega (arith, pairs_few w₀ n p)) r, pairs_same) g.left
 
   there : k < length (runs (take n w₀))
   unfolding sizes
-  there = omega (arith, written-there first, length-map (runs (take n w₀)) (λ run. size_at s (subtable_at s run.outer) run.inners))
+  there = omega (arith, written_there first, length-map (runs (take n w₀)) (λ run. size_at s (subtable_at s run.outer) run.inners))
 
   size : get_or w (8832 + k) 0 ≡ size_at s (subtable_at s (outer (get_or w at 0))) (items (part w at end))
   size =
       place_same w w₀ 12288 g.same (8832 + k) (omega (arith, few, there))
       ∙ sym (noted_at w₀ (length (runs (take n w₀))) k there)
       ∙ ap (λ (ns : List ℕ). get_or ns k 0) noted
-      ∙ written-size first
+      ∙ written_size first
 
-  bytes-long : length (subtable_bytes s (used_regions s (runs (take n w₀))) (run_in w at end)) ≡ get_or w (8832 + k) 0
-  bytes-long = length_run s (used_regions s (runs (take n w₀))) (run_in w at end) ∙ sym size
+  bytes_long : length (subtable_bytes s (used_regions s (runs (take n w₀))) (run_in w at end)) ≡ get_or w (8832 + k) 0
+  bytes_long = length_run s (used_regions s (runs (take n w₀))) (run_in w at end) ∙ sym size
 
   pub going_run : RunPart s w out at end k next
   going_run = record {
     few = omega (arith, few, there);
     after = r.one.after;
-    inside = omega (arith, r.inside, pairs-few w₀ n p);
-    ready = written-ready first (regions-inside s p.list).few;
+    inside = omega (arith, r.inside, pairs_few w₀ n p);
+    ready = written_ready first (regions_inside s p.list).few;
     size = size;
-    room = rw bytes-long at (written_room first);
+    room = rw bytes_long at (written_room first);
   }
 
   pub going_more : {w' bytes : List ℕ} (stop : ℕ) → stop ≡ next + get_or w (8832 + k) 0 → take 12288 w' ≡ take 12288 w → bytes ≡ subtable_bytes s (used_of s w) (run_in w at end)
@@ -86,13 +86,13 @@ module _ {s : List ℕ} (w₀ : List ℕ) {n : ℕ} {w out : List ℕ} {at k nex
       record {
         same = e ∙ g.same;
         inside = r.inside;
-        left = written-more first stop e (b ∙ rw used) (rw bytes-long q);
+        left = written_more first stop e (b ∙ rw used) (rw bytes_long q);
       }
 
 pub going_all : {s w₀ : List ℕ} {n : ℕ} {w out : List ℕ} {at k next : ℕ} → Passed s (take n w₀) w₀ → Going s w₀ n w out at k next → n ≤ at
     → out ≡ flat (λ run. subtable_bytes s (used_regions s (runs (take n w₀))) run) (runs (take n w₀))
 unfolding runs
 going_all {s} {w₀} {n} {w} {out} {at} {k} {next} p g h =
-    let e : at ≡ length (take n w₀) = omega (arith, g.inside, length-take n w₀, p.area, pairs-few w₀ n p) in
+    let e : at ≡ length (take n w₀) = omega (arith, g.inside, length-take n w₀, p.area, pairs_few w₀ n p) in
     let t : Written s (runs (take n w₀)) [] (used_regions s (runs (take n w₀))) w out k next = rw (e, drop-length) at g.left in
     written_all t

@@ -15,11 +15,11 @@ use Rattle.lists.proofs.Parts.{put_next, all_laid}
 use Rattle.lists.proofs.Laid.{Laid, laid_inside, laid_all}
 use Rattle.bits.specs.Bits.{has}
 use Rattle.cells.specs.Be.{be_bytes, Wrote}
-use Rattle.cells.proofs.Cells.{length-be_bytes, wrote-all}
+use Rattle.cells.proofs.Cells.{length-be_bytes, wrote_all}
 use Rattle.opentype.specs.Store.{axis_count, regions_at, region_count, record_length, region_record}
 use Rattle.rules.specs.Regions.{region_list_bytes}
 use Rattle.rules.specs.StoreCut.{offsets}
-use Rattle.laws.specs.Lengths.{sum, record_ends, length-records}
+use Rattle.laws.specs.Lengths.{sum, record_ends, length_records}
 use Rattle.rows.specs.Area.{used_in, used_of}
 use Rattle.objects.specs.Offsets.{offsets_by}
 use borrow.Rule.Slice.PartMut.{put_mid}
@@ -27,10 +27,10 @@ use Rattle.objects.proofs.Filled.{Filled, filled_none, filled_more, filled_all}
 
 -- ---- offsets
 
-pub offsets-by : (at : ℕ) (parts : List (List ℕ)) → offsets at parts ≡ offsets_by at (map (λ part. length part) parts)
+pub offsets_by_lem : (at : ℕ) (parts : List (List ℕ)) → offsets at parts ≡ offsets_by at (map (λ part. length part) parts)
 unfolding offsets offsets_by
-offsets-by at [] = refl
-offsets-by at (part ∷ parts) = rw (offsets-by (at + length part) parts)
+offsets_by_lem at [] = refl
+offsets_by_lem at (part ∷ parts) = rw (offsets_by_lem (at + length part) parts)
 
 pub length_offsets_by : (at : ℕ) (ns : List ℕ) → length (offsets_by at ns) ≡ 4 * length ns
 unfolding offsets_by
@@ -79,8 +79,8 @@ offset_all {ns} {first} {out} {k} {at} {next} o e =
 pub noted_at : (w : List ℕ) (count k : ℕ) → k < count → get_or (take count (drop 8832 w)) k 0 ≡ get_or w (8832 + k) 0
 noted_at w count k h = get_or-take count (drop 8832 w) k 0 h ∙ get_or-drop 8832 w k 0
 
-pub noted-length : (w : List ℕ) (count : ℕ) → length w ≡ 16384 → count ≤ 256 → length (take count (drop 8832 w)) ≡ count
-noted-length w count n h = length-take-le count (drop 8832 w) (rw length-drop (omega arith))
+pub noted_length : (w : List ℕ) (count : ℕ) → length w ≡ 16384 → count ≤ 256 → length (take count (drop 8832 w)) ≡ count
+noted_length w count n h = length-take-le count (drop 8832 w) (rw length-drop (omega arith))
 
 -- ---- the records of the used regions
 
@@ -107,7 +107,7 @@ pub record Copying (s w old : List ℕ) (r next from n : ℕ) : Type 0 where
 
 module _ (s w : List ℕ) (inside : regions_at s + 4 + region_count s * record_length s ≤ length s) where
   pub length-used : length (gather (record_of s w) (region_count s)) ≡ rank (has (used_in w)) (region_count s) * record_length s
-  length-used = ap length (gather-used (has (used_in w)) (λ r. region_record s r) (region_count s)) ∙ length-records s inside (has (used_in w)) (region_count s) (omega arith)
+  length-used = ap length (gather-used (has (used_in w)) (λ r. region_record s r) (region_count s)) ∙ length_records s inside (has (used_in w)) (region_count s) (omega arith)
 
   pub copying : {old out : List ℕ} {r next from n : ℕ} (size : ℕ) → length old ≡ rank (has (used_in w)) (region_count s) * record_length s
       → Laid (record_of s w) old r next out → r < region_count s → from ≡ regions_at s + 4 + r * record_length s → size ≡ record_length s
@@ -135,9 +135,9 @@ module _ (s w : List ℕ) (inside : regions_at s + 4 + region_count s * record_l
       one true = refl
       one false = refl
 
-  pub records-all : {old out : List ℕ} {r next : ℕ} → length old ≡ rank (has (used_in w)) (region_count s) * record_length s → Laid (record_of s w) old r next out → r ≡ region_count s
+  pub records_all : {old out : List ℕ} {r next : ℕ} → length old ≡ rank (has (used_in w)) (region_count s) * record_length s → Laid (record_of s w) old r next out → r ≡ region_count s
       → out ≡ flat (λ r. region_record s r) (used_of s w)
-  records-all o l e = laid_all (region_count s) l e (o ∙ sym length-used) ∙ gather-used (has (used_in w)) (λ r. region_record s r) (region_count s)
+  records_all o l e = laid_all (region_count s) l e (o ∙ sym length-used) ∙ gather-used (has (used_in w)) (λ r. region_record s r) (region_count s)
 
 pub list_laid : (s w : List ℕ) {old m bytes : List ℕ} {axes used : ℕ} (end : ℕ) → axes ≡ axis_count s → used ≡ rank (has (used_in w)) (region_count s) → length old ≡ end → 4 ≤ end
     → Wrote old 0 (be_bytes 2 axes ++ be_bytes 2 used) m → bytes ≡ flat (λ r. region_record s r) (used_of s w) → put_mid 4 (end - 4) m bytes ≡ region_list_bytes s (used_of s w)
@@ -145,14 +145,14 @@ unfolding region_list_bytes
 list_laid s w {old} {m} {bytes} {axes} {used} end a u l h p b =
     let head = be_bytes 2 axes ++ be_bytes 2 used in
     let n : length head ≡ 4 = simp (length-append, length-be_bytes) in
-    let first : m ≡ head ++ drop 4 old = wrote-all p (omega arith) ∙ rw n in
+    let first : m ≡ head ++ drop 4 old = wrote_all p (omega arith) ∙ rw n in
     let list = head ++ flat (λ r. region_record s r) (used_of s w) in
     put_next old head list 4 end first n h b refl
     ∙ all_laid list old end (omega arith)
     ∙ rw (a, length-select (has (used_in w)) (region_count s), u)
 
 -- the bytes behind the list's first four
-pub records-length : (s w out : List ℕ) {axes used : ℕ} (end : ℕ) → axes ≡ axis_count s → used ≡ rank (has (used_in w)) (region_count s) → end ≡ 4 + used * (6 * axes) → length out ≡ end
+pub records_length : (s w out : List ℕ) {axes used : ℕ} (end : ℕ) → axes ≡ axis_count s → used ≡ rank (has (used_in w)) (region_count s) → end ≡ 4 + used * (6 * axes) → length out ≡ end
     → length (take (end - 4) (drop 4 out)) ≡ rank (has (used_in w)) (region_count s) * record_length s
 unfolding record_length
-records-length s w out {axes} {used} end a u e l = rw (← u, ← a) (simp (length-take, length-drop) (omega arith))
+records_length s w out {axes} {used} end a u e l = rw (← u, ← a) (simp (length-take, length-drop) (omega arith))

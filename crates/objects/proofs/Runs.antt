@@ -40,15 +40,15 @@ use Rattle.objects.proofs.Filled.{Filled, filled_none, filled_room, filled_more,
 
 -- ---- one run
 
-pub ready-usable : {s : List ℕ} {run : Run} {w : List ℕ} → RunReady s run w → (absent_subtable s run.outer ≡ false) × (bad_subtable s (subtable_at s run.outer) ≡ false)
+pub ready_usable : {s : List ℕ} {run : Run} {w : List ℕ} → RunReady s run w → (absent_subtable s run.outer ≡ false) × (bad_subtable s (subtable_at s run.outer) ≡ false)
 unfolding unusable
-ready-usable {s} {run} r = neither (absent_subtable s run.outer) (bad_subtable s (subtable_at s run.outer)) r.usable
+ready_usable {s} {run} r = neither (absent_subtable s run.outer) (bad_subtable s (subtable_at s run.outer)) r.usable
 
 -- the columns that w' holds name regions that are there and marked
-pub ready-named : {s : List ℕ} {run : Run} {w w' : List ℕ} {p : Columns} → RunReady s run w → take 12288 w' ≡ take 12288 w
+pub ready_named : {s : List ℕ} {run : Run} {w w' : List ℕ} {p : Columns} → RunReady s run w → take 12288 w' ≡ take 12288 w
     → Planned s (subtable_at s run.outer) run.inners w' p → Named s (subtable_at s run.outer) w' p
 unfolding names_none uses_region
-ready-named {s} {run} {w} {w'} {p} r e q =
+ready_named {s} {run} {w} {w'} {p} r e q =
     let at = subtable_at s run.outer in
     let there : (j : ℕ) → j < p.wide + p.narrow → region_index s (subtable_at s run.outer) (column_in w' p.wide j) < region_count s
     = λ j h. leb-false (region_count s) (region_index s at (column_in w' p.wide j)) (no_kept q (λ c. leb (region_count s) (region_index s at c)) r.named j h) in
@@ -68,16 +68,16 @@ module _ {s w₁ : List ℕ} {t : Subtable} {p : Columns} (w : List ℕ) (from t
   pub run_planned : Planned s t.at (items (part w₁ from to)) w₁ p
   run_planned = rw same-items q
 
-  pub run-named : RunReady s (run_in w from to) w → Named s t.at w₁ p
-  run-named r = rw u.place (ready-named r e (rw u.place at q))
+  pub run_named : RunReady s (run_in w from to) w → Named s t.at w₁ p
+  run_named r = rw u.place (ready_named r e (rw u.place at q))
 
   pub run_length : {n : ℕ} → length w ≡ 16384 → n ≡ size_at s (subtable_at s (outer (get_or w from 0))) (items (part w from to)) → n ≡ planned_length p.long p.wide p.narrow (to - from)
   run_length {n} l z = z ∙ rw (← u.place) (sym (planned_length_lem q) ∙ ap (planned_length p.long p.wide p.narrow) (length-items w from to h (omega arith)))
 
-  pub run-bytes : {bytes : List ℕ} → bytes ≡ planned_bytes s t.at (used_of s w₁) (items (part w₁ from to)) (plan_of s t.at (items (part w₁ from to)))
+  pub run_bytes : {bytes : List ℕ} → bytes ≡ planned_bytes s t.at (used_of s w₁) (items (part w₁ from to)) (plan_of s t.at (items (part w₁ from to)))
       → bytes ≡ subtable_bytes s (used_of s w) (run_in w from to)
   unfolding subtable_bytes
-  run-bytes b = b ∙ rw (same-items, u.place, part_same w₁ w 12288 e 8704 128 (omega arith))
+  run_bytes b = b ∙ rw (same-items, u.place, part_same w₁ w 12288 e 8704 128 (omega arith))
 
 -- ---- one after the other
 
@@ -99,34 +99,34 @@ length_runs s used [] = refl
 length_runs s used (run ∷ rs) = rw (length-append, length_run s used run, length_runs s used rs)
 
 module _ {s : List ℕ} {rs : List Run} {used w out : List ℕ} {k next : ℕ} {run : Run} {left : List Run} (t : Written s rs (run ∷ left) used w out k next) where
-  pub written-ready : region_count s ≤ 4096 → RunReady s run w
+  pub written_ready : region_count s ≤ 4096 → RunReady s run w
   unfolding any bad_region_index some_column names_none is_used
-  written-ready few = record {
+  written_ready few = record {
     usable = (neither (unusable s run) _ t.usable).0;
     named = (neither (names_none s run) _ t.named).0;
     few = few;
     marked = λ q h e. t.marked q h (either_left (uses_region s (subtable_at s run.outer) run.inners q) (is_used s left q) e);
   }
 
-  pub written-size : get_or (sizes s rs) k 0 ≡ size_at s (subtable_at s run.outer) run.inners
+  pub written_size : get_or (sizes s rs) k 0 ≡ size_at s (subtable_at s run.outer) run.inners
   unfolding sizes
-  written-size =
+  written_size =
       ap (λ (i : ℕ). get_or (sizes s rs) i 0) (sym (add-zero k))
       ∙ sym (get_or-drop k (sizes s rs) 0 0)
       ∙ ap (λ (ns : List ℕ). get_or ns 0 0) (sym t.lengths)
 
-  pub written-there : k < length (sizes s rs)
+  pub written_there : k < length (sizes s rs)
   unfolding sizes
-  written-there = omega (arith, ap length t.lengths, length-drop k (sizes s rs))
+  written_there = omega (arith, ap length t.lengths, length-drop k (sizes s rs))
 
   pub written_room : next + length (subtable_bytes s used run) ≤ length out
   unfolding flat
   written_room = filled_room (subtable_bytes s used run) (flat (λ r. subtable_bytes s used r) left) t.filled
 
-  pub written-more : {w' bytes : List ℕ} (stop : ℕ) → take 12288 w' ≡ take 12288 w → bytes ≡ subtable_bytes s used run → stop ≡ next + length (subtable_bytes s used run)
+  pub written_more : {w' bytes : List ℕ} (stop : ℕ) → take 12288 w' ≡ take 12288 w → bytes ≡ subtable_bytes s used run → stop ≡ next + length (subtable_bytes s used run)
       → Written s rs left used w' (put_mid next (stop - next) out bytes) (k + 1) stop
   unfolding any bad_region_index some_column names_none is_used sizes flat
-  written-more {w'} stop e b p = record {
+  written_more {w'} stop e b p = record {
     usable = (neither (unusable s run) _ t.usable).1;
     named = (neither (names_none s run) (bad_region_index s left) t.named).1;
     marked = λ q h u. ap (λ (ws : List ℕ). has ws q) (part_same w' w 12288 e 8704 128 (omega arith)) ∙ t.marked q h (either_right (uses_region s (subtable_at s run.outer) run.inners q) (is_used s left q) u);

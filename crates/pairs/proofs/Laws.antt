@@ -20,8 +20,8 @@ use Rattle.bits.proofs.Sets.{has-zeros, has-insert}
 use Rattle.rules.specs.Lists.{outer, inner, outers_fall, bad_pairs, most_pairs, runs}
 use Rattle.laws.specs.Outers.{climbs_not_fall}
 use Rattle.laws.specs.Kept.{climbs_rising, once_rising}
-use Rattle.laws.specs.Pairs.{outers-climb, again}
-use Rattle.laws.specs.Runs.{Alike, last, more, begins, run-first}
+use Rattle.laws.specs.Pairs.{outers_climb, again}
+use Rattle.laws.specs.Runs.{Alike, last, more, begins, run_first}
 use Rattle.pairs.specs.Pairs.{Inners, Held, OneOuter, RunEnd}
 
 -- ---- the set of inners
@@ -38,30 +38,30 @@ none_before : (n o : ℕ) (ps : List ℕ) (i : ℕ) → i ≤ length ps → ((k 
 none_before n o ps i h b =
     record { is = λ j l. has-zeros n j ∙ sym (not_in_take (o * 65536 + j) ps i h (λ k g e. omega (arith, b k g))) }
 
-pub inners-first : {set : List ℕ} (n : ℕ) (ps : List ℕ) (i o : ℕ) → i ≡ 0 → set ≡ replicate n 0 → Inners set o (take i ps)
-inners-first n ps i o e q = rw (e, q) (none_before n o ps 0 (omega arith) (λ k l. absurd (not-suc-le-zero l)))
+pub inners_first : {set : List ℕ} (n : ℕ) (ps : List ℕ) (i o : ℕ) → i ≡ 0 → set ≡ replicate n 0 → Inners set o (take i ps)
+inners_first n ps i o e q = rw (e, q) (none_before n o ps 0 (omega arith) (λ k l. absurd (not-suc-le-zero l)))
 
 pub inners_new : {set : List ℕ} (n : ℕ) (ps : List ℕ) (i : ℕ) → outers_fall ps ≡ false → i < length ps → (i ≡ 0 → ⊥)
     → (outer (get_or ps i 0) ≡ outer (get_or ps (i - 1) 0) → ⊥) → set ≡ replicate n 0 → Inners set (outer (get_or ps i 0)) (take i ps)
 inners_new n ps i f h z d q =
     rw q (none_before n (outer (get_or ps i 0)) ps i (omega arith)
-    (λ k l. let a = outers-climb ps f k (i - 1) (omega arith) (omega arith) in let b = outers-climb ps f (i - 1) i (omega arith) h in omega (arith, a, b, d)))
+    (λ k l. let a = outers_climb ps f k (i - 1) (omega arith) (omega arith) in let b = outers_climb ps f (i - 1) i (omega arith) h in omega (arith, a, b, d)))
 
-pub inners-same : {set : List ℕ} (ps : List ℕ) (i : ℕ) → (i ≡ 0 → ⊥) → outer (get_or ps i 0) ≡ outer (get_or ps (i - 1) 0) → Held set ps i
+pub inners_same : {set : List ℕ} (ps : List ℕ) (i : ℕ) → (i ≡ 0 → ⊥) → outer (get_or ps i 0) ≡ outer (get_or ps (i - 1) 0) → Held set ps i
     → Inners set (outer (get_or ps i 0)) (take i ps)
-inners-same ps i z e s = rw e (s.is (omega arith))
+inners_same ps i z e s = rw e (s.is (omega arith))
 
 -- the pair stands before it just if its inner is in the set
-pub inners-again : {set : List ℕ} (ps : List ℕ) (i : ℕ) → Inners set (outer (get_or ps i 0)) (take i ps) → has set (inner (get_or ps i 0)) ≡ again ps i
-inners-again ps i s =
+pub inners_again : {set : List ℕ} (ps : List ℕ) (i : ℕ) → Inners set (outer (get_or ps i 0)) (take i ps) → has set (inner (get_or ps i 0)) ≡ again ps i
+inners_again ps i s =
     let p = get_or ps i 0 in
     let e : outer p * 65536 + inner p ≡ p = omega arith in
     s.is (inner p) (omega arith) ∙ ap (λ (x : ℕ). member x (take i ps)) e
 
-pub inners-more : {set : List ℕ} (ps : List ℕ) (i : ℕ) → i < length ps → length set ≡ 2048 → Inners set (outer (get_or ps i 0)) (take i ps)
+pub inners_more : {set : List ℕ} (ps : List ℕ) (i : ℕ) → i < length ps → length set ≡ 2048 → Inners set (outer (get_or ps i 0)) (take i ps)
     → Held (insert set (inner (get_or ps i 0))) ps (i + 1)
 unfolding member any
-inners-more {set} ps i h n s =
+inners_more {set} ps i h n s =
     let p = get_or ps i 0 in
     let e : i + 1 - 1 ≡ i = omega arith in
     record {
@@ -103,14 +103,14 @@ pub rises_end : (b : ℕ) (ps : List ℕ) (i : ℕ) → length ps ≤ i → Rise
 rises_end b ps i h = rw (drop_of_length-le ps {i = i} h) tt
 
 -- their outers don't fall, and none stands twice
-pub rises-kept : (ps : List ℕ) → length ps ≤ most_pairs → Rises 0 ps → bad_pairs ps ≡ false
+pub rises_kept : (ps : List ℕ) → length ps ≤ most_pairs → Rises 0 ps → bad_pairs ps ≡ false
 unfolding bad_pairs
-rises-kept ps h r = rw (le-ltb most_pairs (length ps) h, climbs_not_fall 0 ps (climbs_rising 0 0 ps (omega arith) r), once_rising 0 ps r)
+rises_kept ps h r = rw (le-ltb most_pairs (length ps) h, climbs_not_fall 0 ps (climbs_rising 0 0 ps (omega arith) r), once_rising 0 ps r)
 
 -- ---- a run of one outer
 
-pub one-first : (ps : List ℕ) (from : ℕ) → OneOuter ps from (from + 1)
-one-first ps from = record { after = omega arith; alike = λ k a b. let e : k ≡ from = omega arith in rw e }
+pub one_first : (ps : List ℕ) (from : ℕ) → OneOuter ps from (from + 1)
+one_first ps from = record { after = omega arith; alike = λ k a b. let e : k ≡ from = omega arith in rw e }
 
 pub one_more : {ps : List ℕ} {from end : ℕ} → OneOuter ps from end → outer (get_or ps end 0) ≡ outer (get_or ps from 0) → OneOuter ps from (end + 1)
 one_more {ps} {from} {end} r e =
@@ -134,7 +134,7 @@ one_leap {ps} {from} {end} n to f h r a b e =
     climb : (i k : ℕ) → i ≤ k → k < n → outer (get_or ps i 0) ≤ outer (get_or ps k 0)
     climb i k l g =
         let w = length-take-le n ps h in
-        rw (get_or-take n ps i 0 (omega arith), get_or-take n ps k 0 g) at (outers-climb (take n ps) f i k l (omega arith))
+        rw (get_or-take n ps i 0 (omega arith), get_or-take n ps k 0 g) at (outers_climb (take n ps) f i k l (omega arith))
 
 -- ---- the first run of what is left
 
@@ -164,7 +164,7 @@ run_left ps n from end h r =
     let l : length here ≡ end - from = length-take-le (end - from) (drop from ps) (rw length-drop (omega (arith, r.one.after, r.inside))) in
     let a : Alike o here = alike_all o here (omega (arith, r.one.after)) (λ k g. let i : k < end - from = omega arith in
     rw (get_or-take (end - from) (drop from ps) k 0 i, get_or-drop) (r.one.alike (from + k) (omega arith) (omega arith))) in
-    ap runs cut ∙ run-first o here (drop end (take n ps)) a behind
+    ap runs cut ∙ run_first o here (drop end (take n ps)) a behind
   where
     behind : begins (outer (get_or ps from 0)) (drop end (take n ps)) ≡ false
     behind = elim (dec_lt end n) [

@@ -18,17 +18,17 @@ use Rattle.rules.specs.Lists.{Run, outers_fall, runs}
 use Rattle.rules.specs.Open.{bad_store, bad_regions}
 use Rattle.rules.specs.Regions.{is_used}
 use Rattle.rules.specs.StoreCut.{store_bytes, store_written, null_store, checked_cut, cut_opened}
-use Rattle.laws.specs.Inside.{regions-inside}
-use Rattle.laws.specs.Lengths.{length-bytes}
-use Rattle.laws.specs.Usable.{all-usable}
+use Rattle.laws.specs.Inside.{regions_inside}
+use Rattle.laws.specs.Lengths.{length_bytes}
+use Rattle.laws.specs.Usable.{all_usable}
 use Rattle.rows.specs.Area.{used_in}
 use Rattle.measure.specs.declared.Measure.{Measure}
 use Rattle.measure.specs.Measured.{Whole}
 use Rattle.plan.specs.declared.Planned.{Planned}
 use Rattle.plan.specs.Layout.{Ready, cut_runs, PlannedAs}
 
-pub list-small : (used axes : ℕ) → used ≤ 4096 → axes ≤ 65535 → used * (6 * axes) ≤ 1610588160
-list-small used axes a b = mul-le-mul {n₁ = used} {m₁ = 6 * axes} {n₂ = 4096} {m₂ = 393210} a (omega arith)
+pub list_small : (used axes : ℕ) → used ≤ 4096 → axes ≤ 65535 → used * (6 * axes) ≤ 1610588160
+list_small used axes a b = mul-le-mul {n₁ = used} {m₁ = 6 * axes} {n₂ = 4096} {m₂ = 393210} a (omega arith)
 
 -- ---- 7, 8, 9
 
@@ -45,9 +45,9 @@ module _ {s : List ℕ} {rs : List Run} {w : List ℕ} {m : Measure} (h : Whole 
   unfolding checked_cut
   gives_9 e i d = rw (← h.live, e, ← h.index, i, ← h.middle, d)
 
-  pub gives-bytes : both (not keep) (not m.live) ≡ false → m.index ≡ false → m.middle ≡ false → checked_cut s rs keep ≡ written (store_bytes s rs)
+  pub gives_bytes : both (not keep) (not m.live) ≡ false → m.index ≡ false → m.middle ≡ false → checked_cut s rs keep ≡ written (store_bytes s rs)
   unfolding checked_cut store_written
-  gives-bytes e i d = rw (← h.live, e, ← h.index, i, ← h.middle, d)
+  gives_bytes e i d = rw (← h.live, e, ← h.index, i, ← h.middle, d)
 
 -- ---- the layout
 
@@ -68,7 +68,7 @@ ready_of {s} pairs {w} {m} {axes} {regions} {used} {list} n p f b r h i ea fa er
         climb = f;
         store = b;
         list = r;
-        usable = all-usable s rs [] (h.subtables (written []));
+        usable = all_usable s rs [] (h.subtables (written []));
         named = sym h.index ∙ i;
         used = h.used;
       };
@@ -78,9 +78,9 @@ ready_of {s} pairs {w} {m} {axes} {regions} {used} {list} n p f b r h i ea fa er
       axes = ea;
       axes_fit = fa;
       regions = er;
-      used_fit = omega (arith, (regions-inside s r).few);
+      used_fit = omega (arith, (regions_inside s r).few);
       number = k;
-      whole = rw (c, t, el, k, ea) (sym (length-bytes s (regions-inside s r).inside rs));
+      whole = rw (c, t, el, k, ea) (sym (length_bytes s (regions_inside s r).inside rs));
       small = omega (arith, h.few, h.small);
     }
 

@@ -82,12 +82,12 @@ row_holds_deltas s o i c e h =
     one at false e = sym e
 
 -- any two answers that a reader's promise allows coincide
-pub deltas-coincide : (s : List ℕ) (o i c : ℕ) {a b : Delta} → a ≡ delta_of s o i c → b ≡ delta_of s o i c → a ≡ b
-deltas-coincide s o i c p q = p ∙ sym q
+pub deltas_coincide : (s : List ℕ) (o i c : ℕ) {a b : Delta} → a ≡ delta_of s o i c → b ≡ delta_of s o i c → a ≡ b
+deltas_coincide s o i c p q = p ∙ sym q
 
-pub rows-coincide : (s : List ℕ) (o i : ℕ) {m n : ℕ} {a b : List ℕ} → m ≡ (row_of s o i).number → a ≡ (row_of s o i).part
+pub rows_coincide : (s : List ℕ) (o i : ℕ) {m n : ℕ} {a b : List ℕ} → m ≡ (row_of s o i).number → a ≡ (row_of s o i).part
     → n ≡ (row_of s o i).number → b ≡ (row_of s o i).part → (m ≡ n) × (a ≡ b)
-rows-coincide s o i p a q b = (p ∙ sym q, a ∙ sym b)
+rows_coincide s o i p a q b = (p ∙ sym q, a ∙ sym b)
 
-pub entries-coincide : (s : List ℕ) (g : ℕ) {a b : Entry} → a ≡ entry_of s g → b ≡ entry_of s g → a ≡ b
-entries-coincide s g p q = p ∙ sym q
+pub entries_coincide : (s : List ℕ) (g : ℕ) {a b : Entry} → a ≡ entry_of s g → b ≡ entry_of s g → a ≡ b
+entries_coincide s g p q = p ∙ sym q

@@ -20,7 +20,7 @@ use Rattle.readers.specs.declared.subtable.Subtable.{Subtable}
 use Rattle.readers.specs.declared.subtable.Found.{Found}
 use Rattle.readers.specs.declared.subtable.Found.TheVariants.{Open, Refused}
 use Rattle.readers.specs.Opened.{Usable, Unusable, Opening}
-use Rattle.readers.proofs.Subtables.{usable-is, unusable-is}
+use Rattle.readers.proofs.Subtables.{usable_is, unusable_is}
 
 pub usable : {s : List ℕ} {o : ℕ} {f : Found} {t : Subtable} → Opening s o f → f ≡ Open t → Usable s o t
 usable {s} {o} w e = subst (Opening s o) e w
@@ -30,17 +30,17 @@ unusable {s} {o} w e = subst (Opening s o) e w
 
 -- the three ends of the chain
 module _ {A : Type 0} (s : List ℕ) (o : ℕ) (refuse : Refusal → A) (next : A) where
-  pub store-refused : bad_store s ≡ true → refuse BadStore ≡ opened_or refuse s o next
+  pub store_refused : bad_store s ≡ true → refuse BadStore ≡ opened_or refuse s o next
   unfolding opened_or
-  store-refused b = rw b
+  store_refused b = rw b
 
   pub subtable_refused : {r : Refusal} → bad_store s ≡ false → Unusable s o r → refuse r ≡ opened_or refuse s o next
   unfolding opened_or
-  subtable_refused b u = rw b (unusable-is u refuse next)
+  subtable_refused b u = rw b (unusable_is u refuse next)
 
   pub goes_on : {t : Subtable} → bad_store s ≡ false → Usable s o t → next ≡ opened_or refuse s o next
   unfolding opened_or
-  goes_on b u = rw b (usable-is u (refuse _) (refuse _) next)
+  goes_on b u = rw b (usable_is u (refuse _) (refuse _) next)
 
 pub delta_found : (s : List ℕ) (o i c : ℕ) {t : Subtable} {z : ℤ} → bad_store s ≡ false → Usable s o t
     → z ≡ delta s t.at i c → Value z ≡ delta_of s o i c

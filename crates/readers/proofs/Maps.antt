@@ -39,8 +39,8 @@ opened_map s at {format} {packed} {head} {count} i f p h n =
     }
 
 module _ {s : List ℕ} {m : Map} (o : OpenedMap s m) (g : ℕ) where
-  pub entry-inside : {i : ℕ} → i ≡ min g (m.count - 1) → m.entries + i * m.size + m.size ≤ length s
-  entry-inside {i} h = omega (arith, row_inside i m.count m.size (omega arith))
+  pub entry_inside : {i : ℕ} → i ≡ min g (m.count - 1) → m.entries + i * m.size + m.size ≤ length s
+  entry_inside {i} h = omega (arith, row_inside i m.count m.size (omega arith))
 
   pub pair_is : {i e : ℕ} → i ≡ min g (m.count - 1) → Cell m.size s (m.entries + i * m.size) e
       → (e / 2 ^ m.bits ≡ outer_of s m.at g) × (e % 2 ^ m.bits ≡ inner_of s m.at g)

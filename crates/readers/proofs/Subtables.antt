@@ -18,7 +18,7 @@ use Rattle.rules.specs.declared.Refusal.TheVariants.{AbsentSubtable, BadSubtable
 use Rattle.rules.specs.declared.Refusal.{Refusal}
 use Rattle.lists.specs.Pick.{pick}
 use Rattle.laws.specs.Inside.{subtable_inside}
-use Rattle.laws.specs.Rows.{row_inside, row-short, cell-inside}
+use Rattle.laws.specs.Rows.{row_inside, row_short, cell_inside}
 use Rattle.readers.specs.declared.subtable.Subtable.{Subtable}
 use Rattle.readers.specs.declared.subtable.Found.{Found}
 use Rattle.readers.specs.declared.subtable.Found.TheVariants.{Open, Refused}
@@ -26,20 +26,20 @@ use Rattle.readers.specs.Opened.{Opened, Whole, OpeningAt, Usable, Unusable, Ope
 
 -- the fields of a subtable that 6 lets through
 module _ (s : List ℕ) (at : ℕ) (good : bad_subtable s at ≡ false) where
-  pub head-inside : at + 6 ≤ length s
-  head-inside = (subtable_inside s at good).head
+  pub head_inside : at + 6 ≤ length s
+  head_inside = (subtable_inside s at good).head
 
   module _ {field columns : ℕ} (f : Cell 2 s (at + 2) field) (c : Cell 2 s (at + 4) columns) where
-    pub columns-few : (field % 0x8000 ≤ columns) × (columns ≤ 4096)
+    pub columns_few : (field % 0x8000 ≤ columns) × (columns ≤ 4096)
     unfolding word_count word_field column_count
-    columns-few = rw (f.is, c.is) ((subtable_inside s at good).order, (subtable_inside s at good).few)
+    columns_few = rw (f.is, c.is) ((subtable_inside s at good).order, (subtable_inside s at good).few)
 
     pub whole : {items row : ℕ} → Cell 2 s at items → row ≡ length_of_row (leb 0x8000 field) (field % 0x8000) columns
         → Whole s at (record { at = at; items = items; words = field % 0x8000; columns = columns; long = leb 0x8000 field; row = row; rows = at + 6 + 2 * columns })
     unfolding item_count word_field word_count column_count is_long row_length rows_at
     whole {items} {row} i r =
         let n : at + 6 + 2 * columns + items * row ≤ length s = rw (r, f.is, c.is, i.is) (subtable_inside s at good).inside in
-        let b = row-short (leb 0x8000 field) (field % 0x8000) columns columns-few.0 in
+        let b = row_short (leb 0x8000 field) (field % 0x8000) columns columns_few.0 in
         record {
           good = good;
           place = refl;
@@ -50,10 +50,10 @@ module _ (s : List ℕ) (at : ℕ) (good : bad_subtable s at ≡ false) where
             long = rw (← f.is);
             row = rw (← f.is, ← c.is) r;
             rows = rw (← c.is);
-            order = columns-few.0;
-            few = columns-few.1;
+            order = columns_few.0;
+            few = columns_few.1;
             many = omega (arith, i.small);
-            short = omega (arith, columns-few.1);
+            short = omega (arith, columns_few.1);
             head = omega arith;
             inside = n;
           };
@@ -79,9 +79,9 @@ opening s o {n} {r} (Refused b) e h f z w = record {
 }
 
 -- the opening's answer is that of the chain 5, 6: whatever a call makes of a refusal, and goes on to
-pub unusable-is : {A : Type 0} {s : List ℕ} {o : ℕ} {r : Refusal} → Unusable s o r → (refuse : Refusal → A) (next : A)
+pub unusable_is : {A : Type 0} {s : List ℕ} {o : ℕ} {r : Refusal} → Unusable s o r → (refuse : Refusal → A) (next : A)
     → refuse r ≡ pick (absent_subtable s o) (refuse AbsentSubtable) (pick (bad_subtable s (subtable_at s o)) (refuse BadSubtable) next)
-unusable-is {A} {s} {o} {r} u refuse next = one (absent_subtable s o) (bad_subtable s (subtable_at s o)) u.is u.why
+unusable_is {A} {s} {o} {r} u refuse next = one (absent_subtable s o) (bad_subtable s (subtable_at s o)) u.is u.why
   where
     one : (a b : Bool) → r ≡ pick a AbsentSubtable BadSubtable → pick a true b ≡ true
         → refuse r ≡ pick a (refuse AbsentSubtable) (pick b (refuse BadSubtable) next)
@@ -89,24 +89,24 @@ unusable-is {A} {s} {o} {r} u refuse next = one (absent_subtable s o) (bad_subta
     one false true e w = ap refuse e
     one false false e w = absurd (false≢true w)
 
-pub usable-is : {A : Type 0} {s : List ℕ} {o : ℕ} {t : Subtable} → Usable s o t → (absent bad next : A)
+pub usable_is : {A : Type 0} {s : List ℕ} {o : ℕ} {t : Subtable} → Usable s o t → (absent bad next : A)
     → next ≡ pick (absent_subtable s o) absent (pick (bad_subtable s (subtable_at s o)) bad next)
-usable-is u absent bad next = rw (u.there, u.whole.good)
+usable_is u absent bad next = rw (u.there, u.whole.good)
 
 module _ {s : List ℕ} {t : Subtable} (o : Opened s t) where
   -- a cell of a row that is there ends inside the store
-  pub cell-ends : (item column : ℕ) → item < t.items → column < t.columns
+  pub cell_ends : (item column : ℕ) → item < t.items → column < t.columns
       → t.rows + item * t.row + cell_at t.long t.words column + cell_size t.long t.words column ≤ length s
   unfolding row_length
-  cell-ends item column h k =
+  cell_ends item column h k =
       let e : t.row ≡ length_of_row t.long t.words t.columns = o.row ∙ rw (o.long, o.words, o.columns) in
-      omega (arith, row_inside item t.items t.row h, cell-inside t.long t.words t.columns column o.order k)
+      omega (arith, row_inside item t.items t.row h, cell_inside t.long t.words t.columns column o.order k)
 
-  pub delta-there : (item column : ℕ) {z : ℤ} → item < t.items → column < t.columns
+  pub delta_there : (item column : ℕ) {z : ℤ} → item < t.items → column < t.columns
       → z ≡ signed_at (cell_size t.long t.words column) s (t.rows + item * t.row + cell_at t.long t.words column)
       → z ≡ delta s t.at item column
   unfolding delta cell row_at
-  delta-there item column h k e =
+  delta_there item column h k e =
       rw (← o.items, ← o.columns, ← o.long, ← o.words, ← o.rows, ← o.row, lt-leb _ _ h, lt-leb _ _ k) e
 
   pub delta_no_item : (item column : ℕ) → t.items ≤ item → pos 0 ≡ delta s t.at item column

@@ -20,8 +20,8 @@ use Rattle.rules.specs.StoreCut.{cut_opened}
 use Rattle.rules.specs.Numbering.{present, named_pairs, bad_outer, kept_pairs}
 use Rattle.rules.specs.Maps.{is_written, map_plan, entry_size, wide_entry, map_bytes}
 use Rattle.rules.specs.TableCut.{lay_table, bad_maps, table_written, with_store, cut_kept, cut_table}
-use Rattle.laws.specs.Passed.{not-refused, same_bytes, passed}
-use Rattle.laws.specs.Glyphs.{Glyphs, good-glyphs}
+use Rattle.laws.specs.Passed.{not_refused, same_bytes, passed}
+use Rattle.laws.specs.Glyphs.{Glyphs, good_glyphs}
 
 pub record Cut (maps : ℕ) (t es u : List ℕ) : Type 0 where
   pub glyphs : Glyphs es
@@ -42,7 +42,7 @@ record Stored (maps : ℕ) (t : List ℕ) (rs : List Run) (es : List ℕ) (o : O
 
 stored : (maps : ℕ) (t : List ℕ) (rs : List Run) (es : List ℕ) (o : Outcome) (u : List ℕ) → with_store maps t rs es o ≡ written u → Stored maps t rs es o u
 unfolding with_store table_written
-stored maps t rs es (refused r) u e = absurd (not-refused r u e)
+stored maps t rs es (refused r) u e = absurd (not_refused r u e)
 stored maps t rs es (written store) u e =
     let p = passed (some (λ m. wide_entry t rs es m) maps) WideEntry _ u e in
     record { store = store; from = refl; narrow = p.0; is = p.1 }
@@ -61,7 +61,7 @@ table_cut maps t es u e here =
     let g = passed (bad_outer (subtable_count s) (named_pairs maps t es)) BadOuter _ u f.1 in
     let st = stored maps t rs es (cut_opened s kept true) u g.1 in
     record {
-      glyphs = good-glyphs es a.0;
+      glyphs = good_glyphs es a.0;
       header = b.0;
       opened = c.0;
       maps_good = λ m h p. not_second (present t m) (bad_map t (map_at t m)) (some-not (λ k. both (present t k) (bad_map t (map_at t k))) maps m f.0 h) p;

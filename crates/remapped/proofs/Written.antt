@@ -23,7 +23,7 @@ use Rattle.rules.specs.Open.{bad_header}
 use Rattle.rules.specs.Numbering.{present, counts, pair_of, kept_pairs, new_outer, new_inner}
 use Rattle.rules.specs.Maps.{is_written, map_plan, planned_map, map_bytes}
 use Rattle.demands.specs.Reading.{Bytes}
-use Rattle.laws.specs.Packed.{Packed, all-kept, packed, map-length}
+use Rattle.laws.specs.Packed.{Packed, all_kept, packed, map-length}
 use Rattle.laid.proofs.Map.{LaidMap, laid_map, map_glyph}
 use Rattle.laid.proofs.Table.{LaidTable, laid_table}
 use Rattle.remapped.proofs.Cut.{Cut}
@@ -48,22 +48,22 @@ module _ (maps : ℕ) (t es u : List ℕ) (few : 0 < maps) (most : maps ≤ 4) (
   rows = runs (kept_pairs maps t es)
 
   fits : (m : ℕ) → m < maps → counts t m ≡ true → 0 < length es → Packed t rows es m (map_plan t rows es m)
-  fits m h c l = packed (all-kept maps t es m few most done.glyphs h c) bytes.byte done.glyphs l (done.maps_good m h)
+  fits m h c l = packed (all_kept maps t es m few most done.glyphs h c) bytes.byte done.glyphs l (done.maps_good m h)
 
-  is-written : (m : ℕ) → is_written t es m ≡ true → (counts t m ≡ true) × (0 < length es)
+  is_written_lem : (m : ℕ) → is_written t es m ≡ true → (counts t m ≡ true) × (0 < length es)
   unfolding is_written
-  is-written m e =
+  is_written_lem m e =
       let p = both_hold (counts t m) (differ (length es) 0) e in
       let n = eqb-false (length es) 0 (not-true (eqb (length es) 0) p.1) in
       (p.0, omega arith)
 
-  map-short : (m : ℕ) → m < maps → length (map_bytes t rows es m) ≤ 262144
+  map_short : (m : ℕ) → m < maps → length (map_bytes t rows es m) ≤ 262144
   unfolding map_bytes
-  map-short m h = decided (is_written t es m) (λ e. there e) (λ e. rw e (omega arith))
+  map_short m h = decided (is_written t es m) (λ e. there e) (λ e. rw e (omega arith))
     where
       there : is_written t es m ≡ true → length (map_bytes t rows es m) ≤ 262144
       there e =
-          let w = is-written m e in
+          let w = is_written_lem m e in
           let size = mul-le-mul (fits m h w.0 w.1).few_entries (done.narrow m h e) in
           rw (e, map-length t rows es m (map_plan t rows es m)) (omega arith)
 
@@ -74,7 +74,7 @@ module _ (maps : ℕ) (t es u : List ℕ) (few : 0 < maps) (most : maps ≤ 4) (
   unfolding header_length
   table =
       let short = room_left maps t es u few most bytes done in
-      let all = flat_tab_short (λ m. map_bytes t rows es m) 262144 maps (λ m h. map-short m h) in
+      let all = flat_tab_short (λ m. map_bytes t rows es m) 262144 maps (λ m h. map_short m h) in
       let room = mul-le-mul_right 262144 most in
       rw done.is (laid_table maps t done.store (tab (λ m. map_bytes t rows es m) maps) done.header (length-tab _ maps) (omega arith))
 

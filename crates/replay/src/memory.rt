@@ -10,7 +10,7 @@ pub const WORK_MARK: u32 = 7;
 // The first n numbers of a list.
 pub fn numbers(raw: &[u8], list: &mut [u32], n: usize)
     requires n_in_bounds { 4 * n ≤ length raw.now }
-    requires n_in_bounds_2 { n ≤ length list.old }
+    requires list_has_room { n ≤ length list.old }
 {
     let mut i = 0;
     while i < n {

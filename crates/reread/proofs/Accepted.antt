@@ -33,15 +33,15 @@ pub record Accepted (s pairs st : List ℕ) : Type 0 where
   pub widths : middle_width s (runs pairs) ≡ false
   pub is : st ≡ store_bytes s (runs pairs)
 
-subtables-passed : (s : List ℕ) (rs : List Run) (next : Outcome) (st : List ℕ) → subtables_or s rs next ≡ written st
+subtables_passed : (s : List ℕ) (rs : List Run) (next : Outcome) (st : List ℕ) → subtables_or s rs next ≡ written st
     → ((k : ℕ) → k < length rs → (absent_subtable s (run_at rs k).outer ≡ false) × (bad_subtable s (subtable_at s (run_at rs k).outer) ≡ false))
     × (next ≡ written st)
 unfolding subtables_or
-subtables-passed s [] next st e = (λ k h. absurd (not-suc-le-zero h), e)
-subtables-passed s (run ∷ rs) next st e =
+subtables_passed s [] next st e = (λ k h. absurd (not-suc-le-zero h), e)
+subtables_passed s (run ∷ rs) next st e =
     let p = passed (absent_subtable s run.outer) AbsentSubtable _ st e in
     let q = passed (bad_subtable s (subtable_at s run.outer)) BadSubtable (subtables_or s rs next) st p.1 in
-    let i = subtables-passed s rs next st q.1 in
+    let i = subtables_passed s rs next st q.1 in
     (at p.0 q.0 i.0, i.1)
   where
     at : absent_subtable s run.outer ≡ false → bad_subtable s (subtable_at s run.outer) ≡ false
@@ -59,7 +59,7 @@ opened_accepted s pairs st keep_empty bytes store most rise cut here =
     let rs = runs pairs in
     let o : pick (bad_regions s) (refused BadRegions) (subtables_or s rs (checked_cut s rs keep_empty)) ≡ written st = rw (ne_eqb (regions_at s) 0 here) at cut in
     let r = passed (bad_regions s) BadRegions _ st o in
-    let t = subtables-passed s rs (checked_cut s rs keep_empty) st r.1 in
+    let t = subtables_passed s rs (checked_cut s rs keep_empty) st r.1 in
     let n = passed (both (not keep_empty) (not (some_delta s rs))) NothingKept _ st t.1 in
     let i = passed (bad_region_index s rs) BadRegionIndex _ st n.1 in
     let m = passed (middle_width s rs) MiddleWidth (written (store_bytes s rs)) st i.1 in

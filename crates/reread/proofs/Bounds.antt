@@ -15,21 +15,21 @@ use Rattle.rules.specs.Columns.{Plan, plan_of, order}
 use Rattle.rules.specs.Regions.{used_regions, region_list_bytes}
 use Rattle.rules.specs.Rewrite.{subtable_bytes}
 use Rattle.rules.specs.StoreCut.{store_bytes}
-use Rattle.laws.specs.Inside.{store-inside, regions-inside, subtable_inside}
+use Rattle.laws.specs.Inside.{store_inside, regions_inside, subtable_inside}
 use Rattle.laws.specs.Runs.{run_at}
 use Rattle.laws.specs.Usable.{in_array}
 use Rattle.cells.proofs.Cells.{be_lt}
 use Rattle.reread.proofs.Accepted.{Accepted}
-use Rattle.reread.proofs.Columns.{order-few}
-use Rattle.reread.proofs.Runs.{few-runs, runs-items, piece_short, pieces_short}
+use Rattle.reread.proofs.Columns.{order_few}
+use Rattle.reread.proofs.Runs.{few_runs, runs-items, piece_short, pieces_short}
 use Rattle.laid.proofs.Store.{length-lay_store}
 use Rattle.laid.proofs.Regions.{length_region_list}
 use Rattle.laws.specs.Lengths.{plan_length, length_planned}
-use Rattle.reread.proofs.Used.{few-used, used_record}
+use Rattle.reread.proofs.Used.{few_used, used_record}
 
 -- 4 bytes a column at most
-row-short : (p : Plan) → plan_length p ≤ 4 * length (order p)
-row-short p = by p.is_long (length-append p.wide p.narrow)
+row_short : (p : Plan) → plan_length p ≤ 4 * length (order p)
+row_short p = by p.is_long (length-append p.wide p.narrow)
   where
     by : (l : Bool) → length (order p) ≡ length p.wide + length p.narrow
         → length p.wide * word_size l + length p.narrow * rest_size l ≤ 4 * length (order p)
@@ -43,20 +43,20 @@ unfolding subtable_bytes
 subtable_short s used run h =
     let at = subtable_at s run.outer in
     let p = plan_of s at run.inners in
-    let few = order-few s at run.inners in
-    let row = mul-le-mul_left (length run.inners) (row-short p) in
+    let few = order_few s at run.inners in
+    let row = mul-le-mul_left (length run.inners) (row_short p) in
     let all : length run.inners * (4 * length (order p)) ≤ length run.inners * 16384 = mul-le-mul_left (length run.inners) (omega arith) in
     rw (length_planned s at used run.inners p) (omega arith)
 
 module _ {s pairs st : List ℕ} (ok : Accepted s pairs st) where
-  pub axes-small : axis_count s < 256 ^ 2
+  pub axes_small : axis_count s < 256 ^ 2
   unfolding axis_count
-  axes-small = be_lt 2 s (regions_at s) ok.bytes.byte
+  axes_small = be_lt 2 s (regions_at s) ok.bytes.byte
 
   pub runs_256 : length (runs pairs) ≤ most_subtables
   runs_256 =
-      few-runs pairs most_subtables ok.rise
-      (λ k h. let a = in_array s (run_at (runs pairs) k).outer (ok.there k h) in omega (arith, (store-inside s ok.store).few))
+      few_runs pairs most_subtables ok.rise
+      (λ k h. let a = in_array s (run_at (runs pairs) k).outer (ok.there k h) in omega (arith, (store_inside s ok.store).few))
 
   all-items : length (flat (λ run. run.inners) (runs pairs)) ≤ most_pairs
   all-items = rw (runs-items pairs, length-map pairs (λ p. inner p)) ok.most
@@ -68,18 +68,18 @@ module _ {s pairs st : List ℕ} (ok : Accepted s pairs st) where
   columns_4096 k h = (subtable_inside s _ (ok.whole k h)).few
 
   pub used_4096 : length (used_regions s (runs pairs)) ≤ most_regions
-  used_4096 = le_trans (few-used s (runs pairs)) (regions-inside s ok.regions).few
+  used_4096 = le_trans (few_used s (runs pairs)) (regions_inside s ok.regions).few
 
   -- room is left below 2 ^ 32 for the maps that follow a table's store
-  pub store-short : length (store_bytes s (runs pairs)) < 2 ^ 31
+  pub store_short : length (store_bytes s (runs pairs)) < 2 ^ 31
   unfolding store_bytes record_length
-  store-short =
+  store_short =
       let rs = runs pairs in
       let used = used_regions s rs in
-      let axes = axes-small in
+      let axes = axes_small in
       let size : record_length s ≤ 393210 = omega arith in
       let records = mul-le-mul used_4096 size in
-      let list = length_region_list s used (used_record s rs (regions-inside s ok.regions).inside) in
+      let list = length_region_list s used (used_record s rs (regions_inside s ok.regions).inside) in
       let all = pieces_short (λ run. subtable_bytes s used run) (λ run. run.inners) _ 8198 16384 rs
       (λ k h. subtable_short s used (run_at rs k) (columns_4096 k h)) in
       let items = all-items in

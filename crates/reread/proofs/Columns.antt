@@ -7,7 +7,7 @@ use mathlib.Core.List.{List}
 use lib.ListN.{length, get_or}
 use Rattle.lists.specs.Pick.{pick}
 use Rattle.lists.specs.Search.{any, all}
-use Rattle.lists.proofs.Selected.{pair-few, pair_inside, pair-holds, pair-once, pair_out}
+use Rattle.lists.proofs.Selected.{pair_few, pair_inside, pair_holds, pair_once, pair_out}
 use Rattle.cells.specs.Sign.{outside, nil}
 use Rattle.opentype.specs.Subtable.{column_count}
 use Rattle.rules.specs.declared.Class.{Class}
@@ -19,19 +19,19 @@ not-both Dropped a b = false≢true a
 not-both Narrow a b = false≢true a
 not-both Wide a b = false≢true b
 
-pub order-inside : (s : List ℕ) (at : ℕ) (is : List ℕ) (c : ℕ) → c < length (order (plan_of s at is)) → get_or (order (plan_of s at is)) c 0 < column_count s at
+pub order_inside : (s : List ℕ) (at : ℕ) (is : List ℕ) (c : ℕ) → c < length (order (plan_of s at is)) → get_or (order (plan_of s at is)) c 0 < column_count s at
 unfolding plan_of plan_with
-order-inside s at is c h = pair_inside _ _ (column_count s at) c h
+order_inside s at is c h = pair_inside _ _ (column_count s at) c h
 
-pub order-few : (s : List ℕ) (at : ℕ) (is : List ℕ) → length (order (plan_of s at is)) ≤ column_count s at
+pub order_few : (s : List ℕ) (at : ℕ) (is : List ℕ) → length (order (plan_of s at is)) ≤ column_count s at
 unfolding plan_of plan_with
-order-few s at is = pair-few _ _ (column_count s at) (λ b. not-both (class_of (keeps_long s at is) (kept_deltas s at is b)))
+order_few s at is = pair_few _ _ (column_count s at) (λ b. not-both (class_of (keeps_long s at is) (kept_deltas s at is b)))
 
 -- a column that is kept has a non-zero kept delta
 pub order-live : (s : List ℕ) (at : ℕ) (is : List ℕ) (c : ℕ) → c < length (order (plan_of s at is)) → live s at is (get_or (order (plan_of s at is)) c 0) ≡ true
 unfolding plan_of plan_with class_of live
 order-live s at is c h =
-    pair-holds _ _ (λ b. live s at is b) (column_count s at)
+    pair_holds _ _ (λ b. live s at is b) (column_count s at)
     (λ b e. wide (all (λ z. nil z) (kept_deltas s at is b)) (any (λ z. outside (narrow_limit (keeps_long s at is)) z) (kept_deltas s at is b)) e)
     (λ b e. narrow (all (λ z. nil z) (kept_deltas s at is b)) (any (λ z. outside (narrow_limit (keeps_long s at is)) z) (kept_deltas s at is b)) e)
     c h
@@ -44,10 +44,10 @@ order-live s at is c h =
     narrow true b e = e
     narrow false b e = refl
 
-pub order-once : (s : List ℕ) (at : ℕ) (is : List ℕ) (c d : ℕ) → c < length (order (plan_of s at is)) → d < length (order (plan_of s at is))
+pub order_once : (s : List ℕ) (at : ℕ) (is : List ℕ) (c d : ℕ) → c < length (order (plan_of s at is)) → d < length (order (plan_of s at is))
     → get_or (order (plan_of s at is)) c 0 ≡ get_or (order (plan_of s at is)) d 0 → c ≡ d
 unfolding plan_of plan_with
-order-once s at is c d h k e = pair-once _ _ (column_count s at) (λ b. not-both (class_of (keeps_long s at is) (kept_deltas s at is b))) c d h k e
+order_once s at is c d h k e = pair_once _ _ (column_count s at) (λ b. not-both (class_of (keeps_long s at is) (kept_deltas s at is b))) c d h k e
 
 pub order_out : (s : List ℕ) (at : ℕ) (is : List ℕ) (b : ℕ) → b < column_count s at
     → ((c : ℕ) → c < length (order (plan_of s at is)) → get_or (order (plan_of s at is)) c 0 ≡ b → ⊥) → all (λ z. nil z) (kept_deltas s at is b) ≡ true

@@ -13,7 +13,7 @@ use Rattle.lists.specs.Pick.{pick, both}
 use Rattle.lists.specs.Gather.{select}
 use Rattle.lists.specs.Search.{some, any, all}
 use Rattle.lists.proofs.Each.{some-not, any-not, none_all, each_none, get_d_map}
-use Rattle.lists.proofs.Selected.{select-sound}
+use Rattle.lists.proofs.Selected.{select_sound}
 use Rattle.cells.specs.Be.{be}
 use Rattle.cells.specs.Sign.{sign, outside, nil}
 use Rattle.opentype.specs.Subtable.{long, word_count, column_count, item_count, word_size, rest_size, row_at, cell_at, cell_size, cell, delta}
@@ -24,9 +24,9 @@ use Rattle.laws.specs.Long.{sign_small}
 use Rattle.laid.proofs.Subtable.{Fits}
 
 -- a delta lies in the range of the subtable's larger cells, whatever the bytes
-delta-small : (s : List ℕ) (at i c : ℕ) → mag (delta s at i c) < 256 ^ word_size (long s at) / 2
+delta_small : (s : List ℕ) (at i c : ℕ) → mag (delta s at i c) < 256 ^ word_size (long s at) / 2
 unfolding delta cell cell_size
-delta-small s at i c =
+delta_small s at i c =
     there (leb (item_count s at) i) (leb (column_count s at) c) (long s at) (cell s at i c)
     (in_cell (long s at) (ltb c (word_count s at)) (λ n. be n s (row_at s at i + cell_at (long s at) (word_count s at) c)))
   where
@@ -47,9 +47,9 @@ pub kept_at : (s : List ℕ) (at : ℕ) (is : List ℕ) (c j : ℕ) → j < leng
 unfolding kept_deltas
 kept_at s at is c j h = get_d_map (λ i. delta s at i c) 0 (pos 0) is j h
 
-pub length-kept : (s : List ℕ) (at : ℕ) (is : List ℕ) (c : ℕ) → length (kept_deltas s at is c) ≡ length is
+pub length_kept : (s : List ℕ) (at : ℕ) (is : List ℕ) (c : ℕ) → length (kept_deltas s at is c) ≡ length is
 unfolding kept_deltas
-length-kept s at is c = length-map is (λ i. delta s at i c)
+length_kept s at is c = length-map is (λ i. delta s at i c)
 
 -- a subtable that isn't kept long has no far delta
 not_far : (s : List ℕ) (at : ℕ) (is : List ℕ) (c : ℕ) → c < column_count s at → keeps_long s at is ≡ false
@@ -64,8 +64,8 @@ not_far s at is c h e = by (long s at) refl e
     by true p e = some-not F (column_count s at) c e h
     by false p e =
         each_none (λ z. outside 65535 z) (pos 0) (kept_deltas s at is c) (λ j g.
-        let n = length-kept s at is c in
-        let b : mag (delta s at (get_or is j 0) c) < 256 ^ word_size false / 2 = rw p at (delta-small s at (get_or is j 0) c) in
+        let n = length_kept s at is c in
+        let b : mag (delta s at (get_or is j 0) c) < 256 ^ word_size false / 2 = rw p at (delta_small s at (get_or is j 0) c) in
         rw (kept_at s at is c j (omega arith)) (le-ltb 65535 (mag (delta s at (get_or is j 0) c)) (omega arith)))
 
 -- row 9 not given: without a far delta all lie in -32768..32767
@@ -90,13 +90,13 @@ wide_fits : (l : Bool) (zs : List ℤ) (j : ℕ) → j < length zs → mag (get_
 wide_fits true zs j h b far m = b
 wide_fits false zs j h b far m = let n = near 32767 zs j (not-middle zs m (far refl)) h in omega arith
 
-narrow-fits : (l : Bool) (zs : List ℤ) (j : ℕ) → j < length zs → is_narrow (class_of l zs) ≡ true → middle zs ≡ false → mag (get_or zs j (pos 0)) < 256 ^ rest_size l / 2
-narrow-fits true zs j h k m = let n = near 32767 zs j (not-middle zs m (narrow_near true zs k)) h in omega arith
-narrow-fits false zs j h k m = let n = near 127 zs j (narrow_near false zs k) h in omega arith
+narrow_fits : (l : Bool) (zs : List ℤ) (j : ℕ) → j < length zs → is_narrow (class_of l zs) ≡ true → middle zs ≡ false → mag (get_or zs j (pos 0)) < 256 ^ rest_size l / 2
+narrow_fits true zs j h k m = let n = near 32767 zs j (not-middle zs m (narrow_near true zs k)) h in omega arith
+narrow_fits false zs j h k m = let n = near 127 zs j (narrow_near false zs k) h in omega arith
 
 -- the deltas are below 2 ^ 31
 delta_31 : (s : List ℕ) (at i c : ℕ) → mag (delta s at i c) < 2 ^ 31
-delta_31 s at i c = by (long s at) (delta-small s at i c)
+delta_31 s at i c = by (long s at) (delta_small s at i c)
   where
     by : (l : Bool) → mag (delta s at i c) < 256 ^ word_size l / 2 → mag (delta s at i c) < 2 ^ 31
     by true h = h
@@ -109,15 +109,15 @@ plan_fits s at is m j h =
     let l = keeps_long s at is in
     let wide : ℕ → Bool = λ c. is_wide (class_of l (kept_deltas s at is c)) in
     let narrow : ℕ → Bool = λ c. is_narrow (class_of l (kept_deltas s at is c)) in
-    let in_list : (b : ℕ) → j < length (kept_deltas s at is b) = λ b. rw (length-kept s at is b) h in
+    let in_list : (b : ℕ) → j < length (kept_deltas s at is b) = λ b. rw (length_kept s at is b) h in
     record {
       wide = λ c g.
           let b = get_or (select wide (column_count s at)) c 0 in
-          let q = select-sound wide (column_count s at) c g in
+          let q = select_sound wide (column_count s at) c g in
           rw (← kept_at s at is b j h)
           (wide_fits l (kept_deltas s at is b) j (in_list b) (rw (kept_at s at is b j h) (delta_31 s at (get_or is j 0) b)) (not_far s at is b q.0) (m b q.0));
       narrow = λ c g.
           let b = get_or (select narrow (column_count s at)) c 0 in
-          let q = select-sound narrow (column_count s at) c g in
-          rw (← kept_at s at is b j h) (narrow-fits l (kept_deltas s at is b) j (in_list b) q.1 (m b q.0));
+          let q = select_sound narrow (column_count s at) c g in
+          rw (← kept_at s at is b j h) (narrow_fits l (kept_deltas s at is b) j (in_list b) q.1 (m b q.0));
     }

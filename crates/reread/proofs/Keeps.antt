@@ -22,13 +22,13 @@ use Rattle.demands.specs.Reading.{Readable}
 use Rattle.demands.specs.Rows.{KeptColumns, KeptRow}
 use Rattle.demands.specs.KeepsStore.{has_outer}
 use Rattle.reread.proofs.Accepted.{Accepted}
-use Rattle.reread.proofs.Open.{good-store, good-regions, good_offset, good_subtable}
-use Rattle.reread.proofs.Columns.{order-few, order-inside, order-once, order_out}
-use Rattle.reread.proofs.Fit.{kept_at, length-kept}
+use Rattle.reread.proofs.Open.{good_store, good_regions, good_offset, good_subtable}
+use Rattle.reread.proofs.Columns.{order_few, order_inside, order_once, order_out}
+use Rattle.reread.proofs.Fit.{kept_at, length_kept}
 use Rattle.reread.proofs.Used.{column_region}
 use Rattle.reread.proofs.Places.{has-run}
 use Rattle.reread.proofs.Bounds.{runs_256, columns_4096, used_4096}
-use Rattle.reread.proofs.Written.{place_of, plan_for, parts_count, store-again, regions-again, subtable_again}
+use Rattle.reread.proofs.Written.{place_of, plan_for, parts_count, store_again, regions_again, subtable_again}
 
 is_zero : (z : ℤ) → nil z ≡ true → z ≡ pos 0
 is_zero (pos n) e = ap pos (eqb-true n 0 e)
@@ -37,7 +37,7 @@ is_zero (negsuc n) e = absurd (false≢true e)
 -- a dropped column's kept deltas are 0
 zero_at : (s : List ℕ) (at : ℕ) (is : List ℕ) (b j : ℕ) → all (λ z. nil z) (kept_deltas s at is b) ≡ true → j < length is → delta s at (get_or is j 0) b ≡ pos 0
 zero_at s at is b j e h =
-    sym (kept_at s at is b j h) ∙ is_zero _ (all_at (λ z. nil z) (pos 0) (kept_deltas s at is b) j e (rw (length-kept s at is b) h))
+    sym (kept_at s at is b j h) ∙ is_zero _ (all_at (λ z. nil z) (pos 0) (kept_deltas s at is b) j e (rw (length_kept s at is b) h))
 
 -- Subtable k of the written store w holds the kept items of a run, in their order.
 pub record RunKept (s : List ℕ) (run : Run) (w : List ℕ) (k : ℕ) : Type 0 where
@@ -60,8 +60,8 @@ pub columns_as : {s w old : List ℕ} {o o' q q' : ℕ} → q ≡ o → q' ≡ o
 columns_as a c columns = rw (a, c) columns
 
 -- the outers of the list are in the source's array
-pub outers-inside : {s pairs st : List ℕ} → Accepted s pairs st → (o : ℕ) → has_outer pairs o ≡ true → o < subtable_count s
-outers-inside {s} {pairs} ok o h =
+pub outers_inside : {s pairs st : List ℕ} → Accepted s pairs st → (o : ℕ) → has_outer pairs o ≡ true → o < subtable_count s
+outers_inside {s} {pairs} ok o h =
     let r = has-run pairs o h in
     rw r.2 at (in_array s (run_at (runs pairs) r.0).outer (ok.there r.0 r.1))
 
@@ -77,11 +77,11 @@ module _ {s pairs st w : List ℕ} (ok : Accepted s pairs st) (laid : Stands w 0
         items = new.items;
         columns = record {
           columns = new.columns;
-          inside = order-inside s at is;
-          once = order-once s at is;
+          inside = order_inside s at is;
+          once = order_once s at is;
           records = λ c l.
               let r = column_region s rs k c ok.indexes h l in
-              ap (λ (n : ℕ). region_record w n) (new.indexes c l) ∙ ((regions-again ok laid).same _ r.0 ∙ ap (λ (n : ℕ). region_record s n) r.1);
+              ap (λ (n : ℕ). region_record w n) (new.indexes c l) ∙ ((regions_again ok laid).same _ r.0 ∙ ap (λ (n : ℕ). region_record s n) r.1);
         };
         rows = λ j m. record {
           there = rw new.items m;
@@ -91,25 +91,25 @@ module _ {s pairs st w : List ℕ} (ok : Accepted s pairs st) (laid : Stands w 0
       }
 
   count : subtable_count w ≡ length (runs pairs)
-  count = (store-again ok laid).count ∙ parts_count s (runs pairs)
+  count = (store_again ok laid).count ∙ parts_count s (runs pairs)
 
   readable : Readable w
   readable =
       let rs = runs pairs in
-      let store = store-again ok laid in
-      let regions = regions-again ok laid in
+      let store = store_again ok laid in
+      let regions = regions_again ok laid in
       let array : 8 + 4 * subtable_count w ≤ length w = rw store.count store.array in
       let run : (k : ℕ) → k < subtable_count w → k < length rs = λ k h. rw count at h in
       record {
-        header = good-store w store.format (rw count (runs_256 ok)) (omega arith) array;
+        header = good_store w store.format (rw count (runs_256 ok)) (omega arith) array;
         list = λ e. omega (arith, store.list, e);
-        regions = good-regions w (omega (arith, regions.inside)) (rw regions.count (used_4096 ok)) regions.inside;
+        regions = good_regions w (omega (arith, regions.inside)) (rw regions.count (used_4096 ok)) regions.inside;
         there = λ k h. good_offset w k h (λ e. omega (arith, store.places k (rw (parts_count s rs) (run k h)), e));
         whole = λ k h.
             let new = subtable_again ok laid k (run k h) in
             let p = plan_for s (run_at rs k) in
             let t = length-append p.wide p.narrow in
-            let few = le_trans (order-few s (place_of s (run_at rs k)) (run_at rs k).inners) (columns_4096 ok k (run k h)) in
+            let few = le_trans (order_few s (place_of s (run_at rs k)) (run_at rs k).inners) (columns_4096 ok k (run k h)) in
             good_subtable w (subtable_at w k) new.head (rw (new.words, new.columns) (omega arith)) (rw new.columns few) new.inside;
         named = λ k c h l.
             let new = subtable_again ok laid k (run k h) in
@@ -118,5 +118,5 @@ module _ {s pairs st w : List ℕ} (ok : Accepted s pairs st) (laid : Stands w 0
       }
 
   -- w may be longer than the store: a table's store runs to the table's end
-  pub runs-kept : RunsKept s pairs w
-  runs-kept = record { readable = readable; axes = (regions-again ok laid).axes; count = count; each = kept_run }
+  pub runs_kept : RunsKept s pairs w
+  runs_kept = record { readable = readable; axes = (regions_again ok laid).axes; count = count; each = kept_run }

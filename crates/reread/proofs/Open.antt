@@ -20,14 +20,14 @@ pub no_column : (s : List ℕ) (rs : List Run) (f : ℕ → List ℕ → ℕ →
 unfolding some_column
 no_column s rs f k c e h l = some-not (λ c. f (subtable_at s (run_at rs k).outer) (run_at rs k).inners c) _ c (any-not _ _ rs k e h) l
 
-pub good-store : (w : List ℕ) → store_format w ≡ 1 → subtable_count w ≤ most_subtables → 8 ≤ length w → 8 + 4 * subtable_count w ≤ length w → bad_store w ≡ false
+pub good_store : (w : List ℕ) → store_format w ≡ 1 → subtable_count w ≤ most_subtables → 8 ≤ length w → 8 + 4 * subtable_count w ≤ length w → bad_store w ≡ false
 unfolding bad_store
-good-store w f n h l = rw (le-ltb (length w) 8 h, differ_no (store_format w) 1 f, le-ltb most_subtables (subtable_count w) n, le-ltb (length w) (8 + 4 * subtable_count w) l)
+good_store w f n h l = rw (le-ltb (length w) 8 h, differ_no (store_format w) 1 f, le-ltb most_subtables (subtable_count w) n, le-ltb (length w) (8 + 4 * subtable_count w) l)
 
-pub good-regions : (w : List ℕ) → regions_at w + 4 ≤ length w → region_count w ≤ most_regions
+pub good_regions : (w : List ℕ) → regions_at w + 4 ≤ length w → region_count w ≤ most_regions
     → regions_at w + 4 + region_count w * record_length w ≤ length w → bad_regions w ≡ false
 unfolding bad_regions
-good-regions w h n l =
+good_regions w h n l =
     rw (le-ltb (length w) (regions_at w + 4) h, le-ltb most_regions (region_count w) n, le-ltb (length w) (regions_at w + 4 + region_count w * record_length w) l)
 
 pub good_offset : (w : List ℕ) (k : ℕ) → k < subtable_count w → (subtable_at w k ≡ 0 → ⊥) → absent_subtable w k ≡ false

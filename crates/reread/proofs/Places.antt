@@ -14,11 +14,11 @@ use Rattle.lists.proofs.Left.{any-map}
 use Rattle.lists.proofs.Members.{member_at}
 use Rattle.lists.proofs.Places.{at_place, place-select, length-select}
 use Rattle.lists.proofs.Ascending.{rising_select}
-use Rattle.lists.proofs.Sieves.{Sifted, keep_at, keep-from}
+use Rattle.lists.proofs.Sieves.{Sifted, keep_at, keep_from}
 use Rattle.rules.specs.Lists.{outer, inner, runs}
 use Rattle.rules.specs.Numbering.{inners_of}
 use Rattle.laws.specs.Runs.{run_at}
-use Rattle.laws.specs.Outers.{Climbs, outers_of, rises-runs, member-outers, inners_of_lem, run_at_lem}
+use Rattle.laws.specs.Outers.{Climbs, outers_of, rises_runs, member_outers, inners_of_lem, run_at_lem}
 use Rattle.laws.specs.Kept.{once_rising}
 use Rattle.laws.specs.Once.{only_place}
 use Rattle.demands.specs.KeepsStore.{has_outer, outers_before, pairs_of, outer_at, inner_at}
@@ -42,7 +42,7 @@ pub record Item (ps : List ℕ) (j i : ℕ) : Type 0 where
 
 member-has : (ps : List ℕ) (z : ℕ) → member z (outers_of (runs ps)) ≡ has_outer ps z
 unfolding member has_outer
-member-has ps z = member-outers z ps ∙ any-map (λ y. eqb z y) (λ p. outer p) ps
+member-has ps z = member_outers z ps ∙ any-map (λ y. eqb z y) (λ p. outer p) ps
 
 -- an outer of the list has a run
 pub has-run : (ps : List ℕ) (o : ℕ) → has_outer ps o ≡ true → (k : ℕ) × (k < length (runs ps)) × ((run_at (runs ps) k).outer ≡ o)
@@ -63,15 +63,15 @@ module _ (ps : List ℕ) (climbs : Climbs 0 ps) where
 
   module _ (n : ℕ) (below : (o : ℕ) → has_outer ps o ≡ true → o < n) where
     outers_are : outers_of (runs ps) ≡ select (λ o. has_outer ps o) n
-    outers_are = rising_select (λ o. has_outer ps o) (outers_of (runs ps)) n (rises-runs 0 ps climbs) (member-has ps) below
+    outers_are = rising_select (λ o. has_outer ps o) (outers_of (runs ps)) n (rises_runs 0 ps climbs) (member-has ps) below
 
     pub outer-place : (o : ℕ) → has_outer ps o ≡ true → place o (outers_of (runs ps)) ≡ outers_before ps o
     unfolding outers_before
     outer-place o h = ap (λ (os : List ℕ). place o os) outers_are ∙ place-select (λ p. has_outer ps p) o n (below o h) h
 
-    pub runs-count : length (runs ps) ≡ outers_before ps n
+    pub runs_count : length (runs ps) ≡ outers_before ps n
     unfolding outers_before
-    runs-count =
+    runs_count =
         sym (length-map (runs ps) (λ run. run.outer))
         ∙ (ap (λ (os : List ℕ). length os) outers_are ∙ length-select (λ p. has_outer ps p) n)
 
@@ -100,11 +100,11 @@ module _ (ps : List ℕ) (climbs : Climbs 0 ps) where
         let l : j < length os = rw (length-map (runs ps) (λ run. run.outer)) h in
         let e : get_or os j 0 ≡ (run_at (runs ps) j).outer = get_d_map (λ run. run.outer) (record { outer = 0; inners = [] }) 0 (runs ps) j h in
         let m : has_outer ps (run_at (runs ps) j).outer ≡ true = sym (member-has ps _) ∙ rw e at (member_at os j l) in
-        (m, sym (outer-place _ m) ∙ sym (only_place _ j os (once_rising 0 os (rises-runs 0 ps climbs)) l e))
+        (m, sym (outer-place _ m) ∙ sym (only_place _ j os (once_rising 0 os (rises_runs 0 ps climbs)) l e))
 
     -- its inners are those of its outer
-    pub run-inners : (j : ℕ) → j < length (runs ps) → inners_of (runs ps) (run_at (runs ps) j).outer ≡ (run_at (runs ps) j).inners
-    run-inners j h =
+    pub run_inners : (j : ℕ) → j < length (runs ps) → inners_of (runs ps) (run_at (runs ps) j).outer ≡ (run_at (runs ps) j).inners
+    run_inners j h =
         let o = (run_at (runs ps) j).outer in
         let has = run-has j h in
         let at : place o (outers_of (runs ps)) ≡ j = outer-place o has.0 ∙ has.1 in
@@ -117,7 +117,7 @@ module _ (ps : List ℕ) (climbs : Climbs 0 ps) where
         let has = run-has j h in
         let own = run_of o has.0 in
         let few = rw has.1 at own.items in
-        let s : Sifted (λ p. eqb o (outer p)) 0 ps i = keep-from (λ p. eqb o (outer p)) 0 ps i (rw few at l) in
+        let s : Sifted (λ p. eqb o (outer p)) 0 ps i = keep_from (λ p. eqb o (outer p)) 0 ps i (rw few at l) in
         let e : outer_at ps s.place ≡ o = sym (eqb-true o (outer_at ps s.place) s.holds) in
         let row = rw (has.1, s.before) at (own.rows s.place s.inside e) in
         record { place = s.place; inside = s.inside; outers = e; inners = sym row.1; before = rw e s.before }

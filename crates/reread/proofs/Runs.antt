@@ -12,20 +12,20 @@ use Rattle.lists.specs.Gather.{flat}
 use Rattle.lists.specs.Search.{member, place}
 use Rattle.lists.proofs.Each.{get_d_map}
 use Rattle.lists.proofs.Places.{at_place}
-use Rattle.lists.proofs.Ascending.{Rises, rises-from, rises-length}
+use Rattle.lists.proofs.Ascending.{Rises, rises_from, rises_length}
 use Rattle.rules.specs.Lists.{Run, outer, inner, outers_fall, join_run, runs}
-use Rattle.laws.specs.Outers.{outers_of, rises-runs, not_fall_climbs}
+use Rattle.laws.specs.Outers.{outers_of, rises_runs, not_fall_climbs}
 use Rattle.laws.specs.Runs.{run_at}
 
-runs-rise : (ps : List ℕ) → outers_fall ps ≡ false → Rises 0 (outers_of (runs ps))
-runs-rise [] e = rises-runs 0 [] tt
-runs-rise (p ∷ ps) e = rises-from 0 (outer p) (outers_of (runs (p ∷ ps))) (omega arith) (rises-runs (outer p) (p ∷ ps) (not_fall_climbs p ps e))
+runs_rise : (ps : List ℕ) → outers_fall ps ≡ false → Rises 0 (outers_of (runs ps))
+runs_rise [] e = rises_runs 0 [] tt
+runs_rise (p ∷ ps) e = rises_from 0 (outer p) (outers_of (runs (p ∷ ps))) (omega arith) (rises_runs (outer p) (p ∷ ps) (not_fall_climbs p ps e))
 
 -- the runs' outers rise, so there are no more of them than outers
-pub few-runs : (ps : List ℕ) (most : ℕ) → outers_fall ps ≡ false → ((k : ℕ) → k < length (runs ps) → (run_at (runs ps) k).outer < most) → length (runs ps) ≤ most
-few-runs ps most e b =
+pub few_runs : (ps : List ℕ) (most : ℕ) → outers_fall ps ≡ false → ((k : ℕ) → k < length (runs ps) → (run_at (runs ps) k).outer < most) → length (runs ps) ≤ most
+few_runs ps most e b =
     let n = length-map (runs ps) (λ run. run.outer) in
-    let few = rises-length 0 most (outers_of (runs ps)) (runs-rise ps e) (omega arith) below in
+    let few = rises_length 0 most (outers_of (runs ps)) (runs_rise ps e) (omega arith) below in
     omega arith
   where
     below : (z : ℕ) → member z (outers_of (runs ps)) ≡ true → z < most

@@ -10,7 +10,7 @@ use Rattle.lists.specs.Pick.{both}
 use Rattle.lists.proofs.Tests.{some_at}
 use Rattle.lists.proofs.Each.{any_at}
 use Rattle.lists.proofs.Places.{at_place, is_selected}
-use Rattle.lists.proofs.Selected.{select-sound, select-few}
+use Rattle.lists.proofs.Selected.{select_sound, select_few}
 use Rattle.opentype.specs.Store.{regions_at, subtable_at, region_count, record_length, region_record}
 use Rattle.opentype.specs.Subtable.{column_count, region_index}
 use Rattle.rules.specs.Lists.{Run}
@@ -19,17 +19,17 @@ use Rattle.rules.specs.Regions.{uses_region, is_used, used_regions, new_region}
 use Rattle.rules.specs.StoreCut.{bad_region_index}
 use Rattle.laws.specs.Runs.{run_at}
 use Rattle.reread.proofs.Open.{no_column}
-use Rattle.reread.proofs.Columns.{order-inside, order-live}
+use Rattle.reread.proofs.Columns.{order_inside, order-live}
 use Rattle.laid.proofs.Regions.{length_record}
 
-pub few-used : (s : List ℕ) (rs : List Run) → length (used_regions s rs) ≤ region_count s
+pub few_used : (s : List ℕ) (rs : List Run) → length (used_regions s rs) ≤ region_count s
 unfolding used_regions
-few-used s rs = select-few (λ r. is_used s rs r) (region_count s)
+few_used s rs = select_few (λ r. is_used s rs r) (region_count s)
 
 pub used_record : (s : List ℕ) (rs : List Run) → regions_at s + 4 + region_count s * record_length s ≤ length s
     → (n : ℕ) → n < length (used_regions s rs) → length (region_record s (get_or (used_regions s rs) n 0)) ≡ record_length s
 unfolding used_regions
-used_record s rs h n l = length_record s _ h (select-sound (λ r. is_used s rs r) (region_count s) n l).0
+used_record s rs h n l = length_record s _ h (select_sound (λ r. is_used s rs r) (region_count s) n l).0
 
 -- column b of a used subtable names region r
 live-used : (s : List ℕ) (rs : List Run) (k b : ℕ) → bad_region_index s rs ≡ false → k < length rs → b < column_count s (subtable_at s (run_at rs k).outer)
@@ -59,5 +59,5 @@ column_region s rs k c e h l =
     let at = subtable_at s (run_at rs k).outer in
     let is = (run_at rs k).inners in
     let b = get_or (order (plan_of s at is)) c 0 in
-    let u = live-used s rs k b e h (order-inside s at is c l) (order-live s at is c l) in
+    let u = live-used s rs k b e h (order_inside s at is c l) (order-live s at is c l) in
     at_place (region_index s at b) 0 _ (is_selected (λ r. is_used s rs r) (region_index s at b) (region_count s) u.0 u.1)

@@ -15,18 +15,18 @@ use Rattle.rules.specs.Columns.{Plan, plan_of}
 use Rattle.rules.specs.Regions.{used_regions, region_list_bytes}
 use Rattle.rules.specs.Rewrite.{subtable_bytes}
 use Rattle.rules.specs.StoreCut.{store_bytes, middle_width}
-use Rattle.laws.specs.Inside.{regions-inside}
+use Rattle.laws.specs.Inside.{regions_inside}
 use Rattle.laws.specs.Runs.{run_at}
 use Rattle.reread.proofs.Accepted.{Accepted}
 use Rattle.reread.proofs.Open.{no_column}
-use Rattle.reread.proofs.Columns.{order-few}
+use Rattle.reread.proofs.Columns.{order_few}
 use Rattle.laid.proofs.Store.{LaidStore, laid_store}
 use Rattle.laid.proofs.Regions.{LaidRegions, laid_regions}
 use Rattle.laws.specs.Lengths.{plan_length}
 use Rattle.laid.proofs.Subtable.{LaidSubtable, laid_subtable}
 use Rattle.reread.proofs.Fit.{plan_fits}
 use Rattle.reread.proofs.Used.{used_record, column_region}
-use Rattle.reread.proofs.Bounds.{axes-small, runs_256, items_8192, columns_4096, used_4096, store-short}
+use Rattle.reread.proofs.Bounds.{axes_small, runs_256, items_8192, columns_4096, used_4096, store_short}
 
 -- the place of a run's subtable in the source, and its plan
 abbrev pub place_of : List ℕ → Run → ℕ
@@ -45,19 +45,19 @@ part_at : (s : List ℕ) (rs : List Run) (k : ℕ) → k < length rs → get_or 
 part_at s rs k h = get_d_map (λ run. subtable_bytes s (used_regions s rs) run) _ [] rs k h
 
 module _ {s pairs st w : List ℕ} (ok : Accepted s pairs st) (laid : Stands w 0 st) where
-  pub store-again : LaidStore w (region_list_bytes s (used_regions s (runs pairs))) (parts_of s (runs pairs))
+  pub store_again : LaidStore w (region_list_bytes s (used_regions s (runs pairs))) (parts_of s (runs pairs))
   unfolding store_bytes
-  store-again =
+  store_again =
       let rs = runs pairs in
       let few = runs_256 ok in
-      let short : length (store_bytes s rs) < 2 ^ 31 = store-short ok in
+      let short : length (store_bytes s rs) < 2 ^ 31 = store_short ok in
       laid_store (region_list_bytes s (used_regions s rs)) (parts_of s rs) (rw (parts_count s rs) (omega arith)) (omega arith) (rw ok.is at laid)
 
-  pub regions-again : LaidRegions s (used_regions s (runs pairs)) w
-  regions-again =
+  pub regions_again : LaidRegions s (used_regions s (runs pairs)) w
+  regions_again =
       let few = used_4096 ok in
-      laid_regions s (used_regions s (runs pairs)) (axes-small ok) (omega arith)
-      (used_record s (runs pairs) (regions-inside s ok.regions).inside) store-again.regions
+      laid_regions s (used_regions s (runs pairs)) (axes_small ok) (omega arith)
+      (used_record s (runs pairs) (regions_inside s ok.regions).inside) store_again.regions
 
   pub subtable_again : (k : ℕ) → k < length (runs pairs) → let run = run_at (runs pairs) k in
       LaidSubtable s (place_of s run) (used_regions s (runs pairs)) run.inners (plan_for s run) w (subtable_at w k)
@@ -67,9 +67,9 @@ module _ {s pairs st w : List ℕ} (ok : Accepted s pairs st) (laid : Stands w 0
       let run = run_at rs k in
       let at = place_of s run in
       let items = items_8192 ok k h in
-      let columns = le_trans (order-few s at run.inners) (columns_4096 ok k h) in
+      let columns = le_trans (order_few s at run.inners) (columns_4096 ok k h) in
       let few = used_4096 ok in
-      let part = store-again.subtable k (rw (parts_count s rs) h) in
+      let part = store_again.subtable k (rw (parts_count s rs) h) in
       laid_subtable s at (used_regions s rs) run.inners (plan_for s run) (omega arith) (omega arith)
       (λ c l. let q = (column_region s rs k c ok.indexes h l).0 in omega arith)
       (plan_fits s at run.inners (λ c l. no_column s rs _ k c ok.widths h l))

@@ -3,10 +3,10 @@ use Rattle.demands.specs.ShortestRows.{ShortestRows, ShortestGlyphRows}
 use Rattle.demands.specs.FewestInnerBits.{FewestInnerBits}
 use Rattle.demands.specs.Calls.{HasStore, Varies, OfStoreCalls, OfHvarCalls, OfVvarCalls}
 use Rattle.reread.proofs.Calls.{of_store_calls, of_hvar_calls, of_vvar_calls}
-use Rattle.shortest.proofs.Shortest.{shortest-rows, shortest_table_rows, fewest_inner_bits}
+use Rattle.shortest.proofs.Shortest.{shortest_rows, shortest_table_rows, fewest_inner_bits}
 
 pub cut_store_shortest : OfStoreCalls ShortestRows
-cut_store_shortest = of_store_calls ShortestRows shortest-rows
+cut_store_shortest = of_store_calls ShortestRows shortest_rows
 
 pub cut_hvar_shortest : OfHvarCalls Varies ShortestGlyphRows
 cut_hvar_shortest = of_hvar_calls Varies ShortestGlyphRows shortest_table_rows

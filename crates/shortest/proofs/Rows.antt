@@ -23,7 +23,7 @@ use Rattle.rules.specs.declared.Class.TheVariants.{Dropped, Narrow, Wide}
 use Rattle.rules.specs.Columns.{plan_of, plan_with, kept_deltas, keeps_long, class_of, is_wide, is_narrow, long_limit, narrow_limit}
 use Rattle.demands.specs.ShortestRows.{Form, form_length, holds, tells}
 use Rattle.laws.specs.Lengths.{plan_length}
-use Rattle.reread.proofs.Fit.{kept_at, length-kept}
+use Rattle.reread.proofs.Fit.{kept_at, length_kept}
 
 -- costs, column by column
 weigh_le : (f g h k : ℕ → Bool) (a b a' b' n : ℕ)
@@ -62,17 +62,17 @@ not_held j size z l h k =
     omega (arith, l)
 
 -- what a wide column of the plan needs, where the form holds a delta outside the narrow range in its wide cells or in its narrow ones
-wide-wide : (l m : Bool) (z : ℤ) → outside (narrow_limit l) z ≡ true → holds (word_size m) z ≡ true → word_size l ≤ word_size m
-wide-wide true true z h k = omega arith
-wide-wide true false z h k = absurd (not_held 65535 2 z (omega arith) h k)
-wide-wide false true z h k = omega arith
-wide-wide false false z h k = omega arith
+wide_wide : (l m : Bool) (z : ℤ) → outside (narrow_limit l) z ≡ true → holds (word_size m) z ≡ true → word_size l ≤ word_size m
+wide_wide true true z h k = omega arith
+wide_wide true false z h k = absurd (not_held 65535 2 z (omega arith) h k)
+wide_wide false true z h k = omega arith
+wide_wide false false z h k = omega arith
 
-wide-narrow : (l m : Bool) (z : ℤ) → outside (narrow_limit l) z ≡ true → holds (rest_size m) z ≡ true → word_size l ≤ rest_size m
-wide-narrow true true z h k = absurd (not_held 65535 2 z (omega arith) h k)
-wide-narrow true false z h k = absurd (not_held 65535 1 z (omega arith) h k)
-wide-narrow false true z h k = omega arith
-wide-narrow false false z h k = absurd (not_held 127 1 z (omega arith) h k)
+wide_narrow : (l m : Bool) (z : ℤ) → outside (narrow_limit l) z ≡ true → holds (rest_size m) z ≡ true → word_size l ≤ rest_size m
+wide_narrow true true z h k = absurd (not_held 65535 2 z (omega arith) h k)
+wide_narrow true false z h k = absurd (not_held 65535 1 z (omega arith) h k)
+wide_narrow false true z h k = omega arith
+wide_narrow false false z h k = absurd (not_held 127 1 z (omega arith) h k)
 
 -- the sizes of narrow cells
 rest_word : (l m : Bool) → rest_size l ≤ word_size m
@@ -136,7 +136,7 @@ column_pays l f c zs long told-all = by (all (λ z. nil z) zs) (any (λ z. outsi
         let far = any_found (λ z. outside (narrow_limit l) z) (pos 0) zs e in
         let z = get_or zs far.0 (pos 0) in
         let p = pays (word_size l) z (told-all.each far.0 far.1) (outside_not_nil (narrow_limit l) z far.2)
-        (λ k. wide-wide l f.is_long z far.2 k) (λ k. wide-narrow l f.is_long z far.2 k) in
+        (λ k. wide_wide l f.is_long z far.2 k) (λ k. wide_narrow l f.is_long z far.2 k) in
         omega (arith, p)
     by false false d e =
         let some = all_failed (λ z. nil z) (pos 0) zs d in
@@ -164,7 +164,7 @@ plan_shortest s at is f h =
     let n = column_count s at in
     let zs : ℕ → List ℤ = λ c. kept_deltas s at is c in
     let all : (c : ℕ) → c < n → Told f c (zs c)
-    = λ c k. record { each = λ j i. let o = rw (length-kept s at is c) at i in rw (kept_at s at is c j o) (h j c o k) } in
+    = λ c k. record { each = λ j i. let o = rw (length_kept s at is c) at i in rw (kept_at s at is c j o) (h j c o k) } in
     let wide : ℕ → Bool = λ c. is_wide (class_of l (zs c)) in
     let narrow : ℕ → Bool = λ c. is_narrow (class_of l (zs c)) in
     let sum = weigh_le wide narrow (λ c. member c f.wide) (λ c. member c f.narrow) (word_size l) (rest_size l) (word_size m) (rest_size m) n

@@ -41,29 +41,29 @@ paired_present t {m} g r n o i =
     record { is = rw (differ_yes m.at 0 n, o, i); small = rw i (omega (arith, few, low)) }
 
 -- an inner of so many bits
-pub inner-narrow : (t : List ℕ) (at g : ℕ) {i v : ℕ} → i ≡ inner_of t at g → 2 ^ inner_bits t at ≤ v → i < v
+pub inner_narrow : (t : List ℕ) (at g : ℕ) {i v : ℕ} → i ≡ inner_of t at g → 2 ^ inner_bits t at ≤ v → i < v
 unfolding inner_of
-inner-narrow t at g e h = omega (arith, mod-lt (entry t at g) (pow_pos (inner_bits t at)))
+inner_narrow t at g e h = omega (arith, mod-lt (entry t at g) (pow_pos (inner_bits t at)))
 
-pub outer-is : {pair : ℕ} {p : Pair} → Paired pair p → outer pair ≡ p.outer
-outer-is {pair} p = omega (arith, p.is, p.small)
+pub outer_is : {pair : ℕ} {p : Pair} → Paired pair p → outer pair ≡ p.outer
+outer_is {pair} p = omega (arith, p.is, p.small)
 
 pub is_past : {pair count : ℕ} {p : Pair} → Paired pair p → count ≤ p.outer → leb count (outer pair) ≡ true
-is_past {pair} {count} p h = rw (outer-is p) (le-leb count _ h)
+is_past {pair} {count} p h = rw (outer_is p) (le-leb count _ h)
 
 pub not_past : {pair count : ℕ} {p : Pair} → Paired pair p → p.outer < count → leb count (outer pair) ≡ false
-not_past {pair} {count} p h = rw (outer-is p) (lt-leb count _ h)
+not_past {pair} {count} p h = rw (outer_is p) (lt-leb count _ h)
 
 -- ---- the map that gives them
 
 -- what the code's test says of the map
-pub counts-is : (t : List ℕ) (m at : ℕ) {b v : Bool} → at ≡ map_at t m → b ≡ pick (eqb m 0) true (differ at 0) → b ≡ v → counts t m ≡ v
+pub counts_is : (t : List ℕ) (m at : ℕ) {b v : Bool} → at ≡ map_at t m → b ≡ pick (eqb m 0) true (differ at 0) → b ≡ v → counts t m ≡ v
 unfolding counts present
-counts-is t m at e p q = rw (← e) (sym p ∙ q)
+counts_is t m at e p q = rw (← e) (sym p ∙ q)
 
-pub map-good : (maps : ℕ) (t : List ℕ) (m : ℕ) → bad_maps maps t ≡ false → m < maps → both (present t m) (bad_map t (map_at t m)) ≡ false
+pub map_good : (maps : ℕ) (t : List ℕ) (m : ℕ) → bad_maps maps t ≡ false → m < maps → both (present t m) (bad_map t (map_at t m)) ≡ false
 unfolding bad_maps
-map-good maps t m h l = some-not (λ k. both (present t k) (bad_map t (map_at t k))) maps m h l
+map_good maps t m h l = some-not (λ k. both (present t k) (bad_map t (map_at t k))) maps m h l
 
 -- a present map that the table lets through can be used
 pub usable : (t : List ℕ) (at m : ℕ) → at ≡ map_at t m → (at ≡ 0 → ⊥) → both (present t m) (bad_map t (map_at t m)) ≡ false → bad_map t at ≡ false

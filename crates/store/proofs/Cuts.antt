@@ -14,9 +14,9 @@ use Rattle.rules.specs.Lists.{outers_fall, twice, bad_pairs, most_pairs}
 use Rattle.rules.specs.Open.{bad_store}
 use Rattle.rules.specs.StoreCut.{cut_opened, cut_store}
 
-pub pairs-good : (ps : List ℕ) → bad_pairs ps ≡ false → (length ps ≤ 8192) × (outers_fall ps ≡ false)
+pub pairs_good : (ps : List ℕ) → bad_pairs ps ≡ false → (length ps ≤ 8192) × (outers_fall ps ≡ false)
 unfolding bad_pairs
-pairs-good ps e =
+pairs_good ps e =
     let a = neither (ltb most_pairs (length ps)) _ e in
     (ltb-false most_pairs (length ps) a.0, (neither (outers_fall ps) (twice ps) a.1).0)
 

@@ -16,13 +16,13 @@ use Rattle.rules.specs.Lists.{Run, runs}
 use Rattle.rules.specs.Regions.{is_used, used_regions, region_list_bytes}
 use Rattle.rules.specs.Rewrite.{subtable_bytes}
 use Rattle.rules.specs.StoreCut.{lay_store, store_bytes}
-use Rattle.laws.specs.Inside.{regions-inside}
-use Rattle.laws.specs.Lengths.{sum, sizes, length-list, length-bytes, subtable_sizes}
+use Rattle.laws.specs.Inside.{regions_inside}
+use Rattle.laws.specs.Lengths.{sum, sizes, length_list, length_bytes, subtable_sizes}
 use Rattle.rows.specs.Area.{used_in, used_of}
 use Rattle.plan.specs.declared.Layout.{Layout}
 use Rattle.plan.specs.Layout.{Ready}
 use Rattle.objects.specs.Offsets.{offsets_by}
-use Rattle.objects.proofs.Lists.{offsets-by, length_offsets_by, noted-length}
+use Rattle.objects.proofs.Lists.{offsets_by_lem, length_offsets_by, noted_length}
 use Rattle.objects.proofs.Runs.{used_are}
 
 flat_map : (f : Run → List ℕ) (rs : List Run) → flat (λ part. part) (map f rs) ≡ flat f rs
@@ -35,26 +35,26 @@ module _ {s pairs w : List ℕ} {l : Layout} (r : Ready s pairs w l) where
   ready_marked = r.number ∙ sym (rank_ext (has (used_in w)) (λ q. is_used s (runs pairs) q) (region_count s) (λ q h. r.passed.used q h))
 
   -- the bytes of the store
-  pub ready-total : l.length ≡ 8 + 4 * l.count + (4 + l.used * (6 * l.axes)) + sum (sizes s (runs pairs))
+  pub ready_total : l.length ≡ 8 + 4 * l.count + (4 + l.used * (6 * l.axes)) + sum (sizes s (runs pairs))
   unfolding record_length
-  ready-total = r.whole ∙ length-bytes s (regions-inside s r.passed.list).inside (runs pairs) ∙ rw (← r.count, ← r.number, ← r.axes)
+  ready_total = r.whole ∙ length_bytes s (regions_inside s r.passed.list).inside (runs pairs) ∙ rw (← r.count, ← r.number, ← r.axes)
 
-  pub ready-few : length (runs pairs) ≤ 256
-  ready-few = omega (arith, r.count, r.few)
+  pub ready_few : length (runs pairs) ≤ 256
+  ready_few = omega (arith, r.count, r.few)
 
-  pub ready-noted : take (length (runs pairs)) (drop 8832 w) ≡ sizes s (runs pairs)
-  ready-noted = rw (← r.count) r.noted
+  pub ready_noted : take (length (runs pairs)) (drop 8832 w) ≡ sizes s (runs pairs)
+  ready_noted = rw (← r.count) r.noted
 
   -- the offsets fit 32 bits
-  pub ready-fits : {list : ℕ} → list ≡ 8 + 4 * l.count + (4 + l.used * (6 * l.axes)) → list + sum (take l.count (drop 8832 w)) < 2 ^ 32
-  ready-fits e = rw r.noted (omega (arith, ready-total, r.small))
+  pub ready_fits : {list : ℕ} → list ≡ 8 + 4 * l.count + (4 + l.used * (6 * l.axes)) → list + sum (take l.count (drop 8832 w)) < 2 ^ 32
+  ready_fits e = rw r.noted (omega (arith, ready_total, r.small))
 
   same-used : used_of s w ≡ used_regions s (runs pairs)
   same-used = used_are s (runs pairs) w r.passed.used
 
-  list-long : length (region_list_bytes s (used_regions s (runs pairs))) ≡ 4 + l.used * (6 * l.axes)
+  list_long : length (region_list_bytes s (used_regions s (runs pairs))) ≡ 4 + l.used * (6 * l.axes)
   unfolding record_length
-  list-long = length-list s (regions-inside s r.passed.list).inside (runs pairs) ∙ rw (← r.number, ← r.axes)
+  list_long = length_list s (regions_inside s r.passed.list).inside (runs pairs) ∙ rw (← r.number, ← r.axes)
 
   -- the objects as document 01 lays them
   as_laid : (head list : ℕ) → head ≡ 8 + 4 * l.count → list ≡ head + (4 + l.used * (6 * l.axes))
@@ -66,7 +66,7 @@ module _ {s pairs w : List ℕ} {l : Layout} (r : Ready s pairs w l) where
       let used = used_regions s (runs pairs) in
       let parts = map (λ run. subtable_bytes s used run) (runs pairs) in
       let n : length parts ≡ l.count = length-map (runs pairs) (λ run. subtable_bytes s used run) ∙ sym r.count in
-      rw (el, eh, r.noted, ← subtable_sizes s used (runs pairs), ← offsets-by (8 + 4 * l.count + (4 + l.used * (6 * l.axes))) parts, ← flat_map (λ run. subtable_bytes s used run) (runs pairs), n, list-long)
+      rw (el, eh, r.noted, ← subtable_sizes s used (runs pairs), ← offsets_by_lem (8 + 4 * l.count + (4 + l.used * (6 * l.axes))) parts, ← flat_map (λ run. subtable_bytes s used run) (runs pairs), n, list_long)
 
   pub store_laid : (out : List ℕ) {a b d f : List ℕ} (head list : ℕ) → head ≡ 8 + 4 * l.count → list ≡ head + (4 + l.used * (6 * l.axes)) → length out ≡ l.length
       → a ≡ be_bytes 2 1 ++ be_bytes 4 head ++ be_bytes 2 l.count → b ≡ offsets_by list (take l.count (drop 8832 w)) → d ≡ region_list_bytes s (used_of s w)
@@ -77,12 +77,12 @@ module _ {s pairs w : List ℕ} {l : Layout} (r : Ready s pairs w l) where
       let B = A ++ offsets_by list (take l.count (drop 8832 w)) in
       let D = B ++ region_list_bytes s (used_regions s (runs pairs)) in
       let F = D ++ flat (λ run. subtable_bytes s (used_regions s (runs pairs)) run) (runs pairs) in
-      let t = ready-total in
+      let t = ready_total in
       let la : length A ≡ 8 = simp (length-append, length-be_bytes) in
       let nb = length_offsets_by list (take l.count (drop 8832 w)) in
-      let nl = noted-length w l.count r.passed.area r.few in
+      let nl = noted_length w l.count r.passed.area r.few in
       let lb : length B ≡ head = rw (length-append, nb, nl) (omega arith) in
-      let ld : length D ≡ list = rw (length-append, list-long) (omega arith) in
+      let ld : length D ≡ list = rw (length-append, list_long) (omega arith) in
       let p₁ = put_next out [] A 0 8 refl refl (omega arith) pa refl in
       let p₂ = put_next out A B 8 head p₁ la (omega arith) pb refl in
       let p₃ = put_next out B D head list p₂ lb (omega arith) (pd ∙ rw same-used) refl in

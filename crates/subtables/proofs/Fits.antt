@@ -9,11 +9,11 @@ use lib.ListN.{length, get_or}
 use borrow.Author.Tests.{ltb-true}
 use Rattle.lists.specs.Pick.{pick, both}
 use Rattle.lists.proofs.Tabs.{get_d_tab}
-use Rattle.lists.proofs.Selected.{select-sound}
+use Rattle.lists.proofs.Selected.{select_sound}
 use Rattle.opentype.specs.Subtable.{long, word_count, column_count, word_size, rest_size, cell_size}
 use Rattle.rules.specs.declared.Class.TheVariants.{Dropped, Narrow, Wide}
 use Rattle.rules.specs.Columns.{Plan, is_wide, class_of, kept_deltas, keeps_long, plan_of, plan_with}
-use Rattle.laws.specs.Sizes.{class_by_size, column_size, class-column}
+use Rattle.laws.specs.Sizes.{class_by_size, column_size, class_column}
 use Rattle.readers.specs.declared.subtable.Subtable.{Subtable}
 use Rattle.readers.specs.Opened.{Opened}
 use Rattle.columns.proofs.Caps.{column_capped}
@@ -37,7 +37,7 @@ wide_above is_long n e = ltb-true (pick is_long 3 1) n (by (ltb 0 n) (ltb (pick 
 
 module _ (s : List ℕ) (at : ℕ) (is : List ℕ) where
   wide_fits : (is_long : Bool) (c : ℕ) → is_wide (class_of is_long (kept_deltas s at is c)) ≡ true → word_size is_long ≤ cell_size (long s at) (word_count s at) c
-  wide_fits is_long c e = by is_long (wide_above is_long (column_size (kept_deltas s at is c)) (rw (class-column is_long (kept_deltas s at is c)) at e)) (column_capped s at is c)
+  wide_fits is_long c e = by is_long (wide_above is_long (column_size (kept_deltas s at is c)) (rw (class_column is_long (kept_deltas s at is c)) at e)) (column_capped s at is c)
     where
       by : (l : Bool) {n w : ℕ} → pick l 3 1 < n → n ≤ w → word_size l ≤ w
       by true h k = omega arith
@@ -45,12 +45,12 @@ module _ (s : List ℕ) (at : ℕ) (is : List ℕ) where
 
   wides_fit : (k : ℕ) → let p = plan_of s at is in k < length p.wide → word_size p.is_long ≤ cell_size (long s at) (word_count s at) (get_or p.wide k 0)
   unfolding plan_of plan_with
-  wides_fit k h = wide_fits (keeps_long s at is) _ (select-sound (λ c. is_wide (class_of (keeps_long s at is) (kept_deltas s at is c))) (column_count s at) k h).1
+  wides_fit k h = wide_fits (keeps_long s at is) _ (select_sound (λ c. is_wide (class_of (keeps_long s at is) (kept_deltas s at is c))) (column_count s at) k h).1
 
   -- long is kept of a long source only
-  narrow-fits : (c : ℕ) → rest_size (plan_of s at is).is_long ≤ cell_size (long s at) (word_count s at) c
+  narrow_fits : (c : ℕ) → rest_size (plan_of s at is).is_long ≤ cell_size (long s at) (word_count s at) c
   unfolding plan_of plan_with keeps_long cell_size
-  narrow-fits c = by (long s at) _ (ltb c (word_count s at))
+  narrow_fits c = by (long s at) _ (ltb c (word_count s at))
     where
       by : (l a b : Bool) → rest_size (both l a) ≤ pick b (word_size l) (rest_size l)
       by true true true = omega arith
@@ -69,7 +69,7 @@ planned_fitted {s} {t} {is} {w} {p} o h = record {
   };
   narrow = record {
     there = λ k l. rw o.columns ((planned_inside h).each (p.wide + k) (omega arith));
-    holds = λ k l. rw (o.long, o.words, h.long) (narrow-fits s t.at is (column_in w p.wide (p.wide + k)));
+    holds = λ k l. rw (o.long, o.words, h.long) (narrow_fits s t.at is (column_in w p.wide (p.wide + k)));
   };
 }
   where

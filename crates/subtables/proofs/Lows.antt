@@ -17,40 +17,40 @@ use Rattle.opentype.specs.Subtable.{word_size, rest_size, cell_at, cell_size, de
 use Rattle.laws.specs.Rows.{cell_has_size}
 use Rattle.readers.specs.declared.subtable.Subtable.{Subtable}
 use Rattle.readers.specs.Opened.{Opened}
-use Rattle.readers.proofs.Subtables.{delta-there, delta_no_item, cell-ends}
+use Rattle.readers.proofs.Subtables.{delta_there, delta_no_item, cell_ends}
 
 -- what stands above b bytes does not reach them
-low-bytes : (b q r : ℕ) → be_bytes b (q * 256 ^ b + r) ≡ be_bytes b r
+low_bytes : (b q r : ℕ) → be_bytes b (q * 256 ^ b + r) ≡ be_bytes b r
 unfolding be_bytes
-low-bytes zero q r = refl
-low-bytes (suc b) q r =
-    rw (pow-suc, ← mul_assoc q (256 ^ b) 256, mul-add-div_right {m = 256} (zero-lt-suc 255) (q * 256 ^ b) r, mul-add-mod_self_right (q * 256 ^ b) 256 r, low-bytes b q (r / 256))
+low_bytes zero q r = refl
+low_bytes (suc b) q r =
+    rw (pow-suc, ← mul_assoc q (256 ^ b) 256, mul-add-div_right {m = 256} (zero-lt-suc 255) (q * 256 ^ b) r, mul-add-mod_self_right (q * 256 ^ b) 256 r, low_bytes b q (r / 256))
 
 -- 2 h is the width's power, of which suc q are 2 ^ 32
-sign-bytes : (q h m b u : ℕ) → 2 ^ 32 ≡ suc q * (h + h) → h + h ≡ m * 256 ^ b → u < h + h → signed_bytes b (sign h u) ≡ be_bytes b u
-sign-bytes q h m b u e f l = elim (dec_lt u h) [
+sign_bytes : (q h m b u : ℕ) → 2 ^ 32 ≡ suc q * (h + h) → h + h ≡ m * 256 ^ b → u < h + h → signed_bytes b (sign h u) ≡ be_bytes b u
+sign_bytes q h m b u e f l = elim (dec_lt u h) [
   | yes p ↦ rw (sign_low h u p)
   | no p ↦ (let g : h ≤ u = omega arith in
       let k : q * (h + h) ≡ q * m * 256 ^ b = rw f (sym (mul_assoc q m (256 ^ b))) in
       let n : 2 ^ 32 - suc (h + h - suc u) ≡ q * m * 256 ^ b + u = omega (arith, suc-mul q (h + h), k) in
-      rw (sign_high h u g, n) (low-bytes b (q * m) u))
+      rw (sign_high h u g, n) (low_bytes b (q * m) u))
 ]
 
 -- a cell of any size, a + b bytes
-cell-bytes : (a b w u : ℕ) → Size w → w ≡ a + b → u < 256 ^ w → signed_bytes b (sign (256 ^ w / 2) u) ≡ be_bytes b u
-cell-bytes a b zero u z e l = absurd (omega arith)
-cell-bytes a b (suc zero) u z e l = sign-bytes 16777215 128 (256 ^ a) b u refl (ap (λ (n : ℕ). 256 ^ n) e ∙ pow-add 256 a b) l
-cell-bytes a b (suc (suc zero)) u z e l = sign-bytes 65535 32768 (256 ^ a) b u refl (ap (λ (n : ℕ). 256 ^ n) e ∙ pow-add 256 a b) l
-cell-bytes a b (suc (suc (suc zero))) u z e l = absurd (z.even refl)
-cell-bytes a b (suc (suc (suc (suc zero)))) u z e l = sign-bytes 0 2147483648 (256 ^ a) b u refl (ap (λ (n : ℕ). 256 ^ n) e ∙ pow-add 256 a b) l
-cell-bytes a b (suc (suc (suc (suc (suc w))))) u z e l = absurd (omega arith)
+cell_bytes : (a b w u : ℕ) → Size w → w ≡ a + b → u < 256 ^ w → signed_bytes b (sign (256 ^ w / 2) u) ≡ be_bytes b u
+cell_bytes a b zero u z e l = absurd (omega arith)
+cell_bytes a b (suc zero) u z e l = sign_bytes 16777215 128 (256 ^ a) b u refl (ap (λ (n : ℕ). 256 ^ n) e ∙ pow-add 256 a b) l
+cell_bytes a b (suc (suc zero)) u z e l = sign_bytes 65535 32768 (256 ^ a) b u refl (ap (λ (n : ℕ). 256 ^ n) e ∙ pow-add 256 a b) l
+cell_bytes a b (suc (suc (suc zero))) u z e l = absurd (z.even refl)
+cell_bytes a b (suc (suc (suc (suc zero)))) u z e l = sign_bytes 0 2147483648 (256 ^ a) b u refl (ap (λ (n : ℕ). 256 ^ n) e ∙ pow-add 256 a b) l
+cell_bytes a b (suc (suc (suc (suc (suc w))))) u z e l = absurd (omega arith)
 
-last-bytes : (w b : ℕ) (s : List ℕ) (at : ℕ) → Size w → b ≤ w → ((i : ℕ) → get_or s i 0 < 256) → signed_bytes b (signed_at w s at) ≡ be_bytes b (be b s (at + (w - b)))
-last-bytes w b s at z h t =
+last_bytes : (w b : ℕ) (s : List ℕ) (at : ℕ) → Size w → b ≤ w → ((i : ℕ) → get_or s i 0 < 256) → signed_bytes b (signed_at w s at) ≡ be_bytes b (be b s (at + (w - b)))
+last_bytes w b s at z h t =
     let e : w ≡ (w - b) + b = omega arith in
-    cell-bytes (w - b) b w (be w s at) z e (be_lt w s at t)
+    cell_bytes (w - b) b w (be w s at) z e (be_lt w s at t)
     ∙ ap (λ (n : ℕ). be_bytes b (be n s at)) e
-    ∙ rw (be_cat (w - b) b s at) (low-bytes b (be (w - b) s at) (be b s (at + (w - b))))
+    ∙ rw (be_cat (w - b) b s at) (low_bytes b (be (w - b) s at) (be b s (at + (w - b))))
 
 -- a column's cell ends where the next one starts
 pub cell_next : (is_long : Bool) (words c : ℕ) → cell_at is_long words (c + 1) ≡ cell_at is_long words c + cell_size is_long words c
@@ -81,13 +81,13 @@ module _ {s : List ℕ} {t : Subtable} (o : Opened s t) (item column size : ℕ)
   low_no_item h = rw (← delta_no_item o item column h)
 
   -- the cell ends inside
-  pub low-ends : item < t.items → column < t.columns → t.rows + item * t.row + cell_at t.long t.words (column + 1) ≤ length s
-  low-ends h k = omega (arith, cell_next t.long t.words column, cell-ends o item column h k)
+  pub low_ends : item < t.items → column < t.columns → t.rows + item * t.row + cell_at t.long t.words (column + 1) ≤ length s
+  low_ends h k = omega (arith, cell_next t.long t.words column, cell_ends o item column h k)
 
-  pub low-there : {r : ℕ} → item < t.items → column < t.columns → size ≤ cell_size t.long t.words column → ((i : ℕ) → get_or s i 0 < 256)
+  pub low_there : {r : ℕ} → item < t.items → column < t.columns → size ≤ cell_size t.long t.words column → ((i : ℕ) → get_or s i 0 < 256)
       → r ≡ be size s (t.rows + item * t.row + cell_at t.long t.words (column + 1) - size) → be_bytes size r ≡ signed_bytes size (delta s t.at item column)
-  low-there {r} h k l b e =
+  low_there {r} h k l b e =
       let w = cell_size t.long t.words column in
       let at = t.rows + item * t.row + cell_at t.long t.words column in
       let p : t.rows + item * t.row + cell_at t.long t.words (column + 1) - size ≡ at + (w - size) = omega (arith, cell_next t.long t.words column) in
-      rw (← delta-there o item column h k refl, e, p) (sym (last-bytes w size s at (cell_has_size t.long t.words column) l b))
+      rw (← delta_there o item column h k refl, e, p) (sym (last_bytes w size s at (cell_has_size t.long t.words column) l b))

@@ -16,18 +16,18 @@ use Rattle.rows.specs.Planned.{Planned}
 use Rattle.subtables.specs.Written.{columns_from, items_in, plan_in}
 
 -- the kept columns are the wide ones, then the narrow ones
-pub columns-order : (w : List ℕ) (p : Columns) → columns_in w p.wide p.narrow ≡ order (plan_in w p)
+pub columns_order : (w : List ℕ) (p : Columns) → columns_in w p.wide p.narrow ≡ order (plan_in w p)
 unfolding columns_in plan_in columns_from
-columns-order w p = tab_add (λ j. column_in w p.wide j) p.wide p.narrow ∙ simp zero-add
+columns_order w p = tab_add (λ j. column_in w p.wide j) p.wide p.narrow ∙ simp zero-add
 
 module _ {s : List ℕ} {at : ℕ} {is w : List ℕ} {p : Columns} (h : Planned s at is w p) where
   both_groups : columns_from w p.wide 0 p.wide ++ columns_from w p.wide p.wide p.narrow ≡ order (plan_of s at is)
   unfolding plan_in
-  both_groups = sym (columns-order w p) ∙ h.kept
+  both_groups = sym (columns_order w p) ∙ h.kept
 
-  wide-length : length (columns_from w p.wide 0 p.wide) ≡ p.wide
+  wide_length : length (columns_from w p.wide 0 p.wide) ≡ p.wide
   unfolding columns_from
-  wide-length = length-tab _ p.wide
+  wide_length = length-tab _ p.wide
 
   pub plan_in_lem : plan_in w p ≡ plan_of s at is
   unfolding plan_in
@@ -35,8 +35,8 @@ module _ {s : List ℕ} {at : ℕ} {is w : List ℕ} {p : Columns} (h : Planned 
       let m = columns_from w p.wide 0 p.wide in
       let n = columns_from w p.wide p.wide p.narrow in
       let plan = plan_of s at is in
-      let a : m ≡ plan.wide = sym (take_at m n p.wide wide-length) ∙ ap (take p.wide) both_groups ∙ take_at plan.wide plan.narrow p.wide (sym h.wide) in
-      let b : n ≡ plan.narrow = sym (drop_at m n p.wide wide-length) ∙ ap (drop p.wide) both_groups ∙ drop_at plan.wide plan.narrow p.wide (sym h.wide) in
+      let a : m ≡ plan.wide = sym (take_at m n p.wide wide_length) ∙ ap (take p.wide) both_groups ∙ take_at plan.wide plan.narrow p.wide (sym h.wide) in
+      let b : n ≡ plan.narrow = sym (drop_at m n p.wide wide_length) ∙ ap (drop p.wide) both_groups ∙ drop_at plan.wide plan.narrow p.wide (sym h.wide) in
       rw (h.long, a, b)
 
 -- the kept items of the pairs from..to

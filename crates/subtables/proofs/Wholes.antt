@@ -19,26 +19,26 @@ use Rattle.opentype.specs.Subtable.{word_size, rest_size, length_of_row, row_len
 use Rattle.rules.specs.Rewrite.{row_bytes}
 use Rattle.readers.specs.declared.subtable.Subtable.{Subtable}
 use Rattle.readers.specs.Opened.{Opened}
-use Rattle.readers.proofs.Subtables.{cell-ends}
+use Rattle.readers.proofs.Subtables.{cell_ends}
 use Rattle.rows.specs.declared.Columns.{Columns}
 use Rattle.rows.specs.Area.{column_in}
 use Rattle.subtables.specs.Kept.{Own, KeptWhole}
 use Rattle.rows.specs.Length.{row_of}
 use Rattle.subtables.specs.Written.{columns_from, plan_in}
-use Rattle.subtables.proofs.Lows.{cell_next, low-there}
+use Rattle.subtables.proofs.Lows.{cell_next, low_there}
 
 module _ {s : List ℕ} {t : Subtable} (o : Opened s t) (small : (i : ℕ) → get_or s i 0 < 256) (item : ℕ) (there : item < t.items) where
   abbrev start : ℕ
   start = t.rows + item * t.row
 
   -- one cell
-  cell-own : (size column : ℕ) → column < t.columns → cell_size t.long t.words column ≡ size
+  cell_own : (size column : ℕ) → column < t.columns → cell_size t.long t.words column ≡ size
       → signed_bytes size (delta s t.at item column) ≡ take size (drop (start + cell_at t.long t.words column) s)
-  cell-own size column k e =
+  cell_own size column k e =
       let at = start + cell_at t.long t.words column in
       let n : start + cell_at t.long t.words (column + 1) - size ≡ at = omega (arith, cell_next t.long t.words column) in
-      sym (low-there o item column size there k (omega arith) small (ap (be size s) (sym n)))
-      ∙ read_written size s at small (omega (arith, cell-ends o item column there k))
+      sym (low_there o item column size there k (omega arith) small (ap (be size s) (sym n)))
+      ∙ read_written size s at small (omega (arith, cell_ends o item column there k))
 
   -- n cells of one size from a place on
   cells_own : (size first place n : ℕ) → ((k : ℕ) → k < n → (first + k < t.columns) × (cell_size t.long t.words (first + k) ≡ size)
@@ -48,7 +48,7 @@ module _ {s : List ℕ} {t : Subtable} (o : Opened s t) (small : (i : ℕ) → g
   cells_own size first place zero h = rw zero-mul
   cells_own size first place (suc n) h =
       let l = h n (omega arith) in
-      rw (flat_append, cells_own size first place n (λ k m. h k (omega arith)), append-nil, cell-own size (first + n) l.0 l.1, l.2, suc-mul, take-add, drop-drop)
+      rw (flat_append, cells_own size first place n (λ k m. h k (omega arith)), append-nil, cell_own size (first + n) l.0 l.1, l.2, suc-mul, take-add, drop-drop)
 
 -- `a != b` does not hold
 pub same_flag : (a b : Bool) → not (beq a b) ≡ false → a ≡ b
@@ -61,8 +61,8 @@ same_flag false false e = refl
 pub own_none : (w : List ℕ) (wide : ℕ) → Own w wide 0
 own_none w wide = record { each = λ j h. absurd (omega arith) }
 
-pub own-more : {w : List ℕ} {wide n c : ℕ} → Own w wide n → c ≡ column_in w wide n → c ≡ n → Own w wide (n + 1)
-own-more {n = n} o e f = record {
+pub own_more : {w : List ℕ} {wide n c : ℕ} → Own w wide n → c ≡ column_in w wide n → c ≡ n → Own w wide (n + 1)
+own_more {n = n} o e f = record {
   each = λ j h. elim (dec_lt j n) [
     | yes l ↦ o.each j l
     | no l ↦ (let q : j ≡ n = omega arith in rw q (sym e ∙ f))
@@ -85,9 +85,9 @@ module _ {s : List ℕ} {t : Subtable} {w : List ℕ} {p : Columns} (o : Opened 
       let n : t.columns - t.words ≡ p.narrow = omega (arith, h.wide, h.all) in
       o.row ∙ rw (← o.long, ← o.words, ← o.columns, n, h.long, h.wide)
 
-  own-columns : (first n : ℕ) → first + n ≤ t.columns → columns_from w p.wide first n ≡ tab (λ k. first + k) n
+  own_columns : (first n : ℕ) → first + n ≤ t.columns → columns_from w p.wide first n ≡ tab (λ k. first + k) n
   unfolding columns_from
-  own-columns first n l = tab_ext _ _ n (λ k m. h.own.each (first + k) (omega arith))
+  own_columns first n l = tab_ext _ _ n (λ k m. h.own.each (first + k) (omega arith))
 
   module _ (small : (i : ℕ) → get_or s i 0 < 256) (item : ℕ) (there : item < t.items) where
     wides_own : flat (λ c. signed_bytes (word_size p.long) (delta s t.at item c)) (tab (λ k. 0 + k) p.wide)
@@ -111,7 +111,7 @@ module _ {s : List ℕ} {t : Subtable} {w : List ℕ} {p : Columns} (o : Opened 
             let e = rest_cell t.long t.words k in
             rw (h.long, h.wide, e.0, e.1) (omega (arith, h.all, h.wide), refl, omega arith)
 
-    pub whole-written : take t.row (drop (t.rows + item * t.row) s) ≡ row_bytes s t.at (plan_in w p) item
+    pub whole_written : take t.row (drop (t.rows + item * t.row) s) ≡ row_bytes s t.at (plan_in w p) item
     unfolding row_bytes plan_in
-    whole-written =
-        rw (own-columns 0 p.wide (omega (arith, h.all)), own-columns p.wide p.narrow (omega (arith, h.all)), wides_own, narrows_own, whole_row, take-add, drop-drop)
+    whole_written =
+        rw (own_columns 0 p.wide (omega (arith, h.all)), own_columns p.wide p.narrow (omega (arith, h.all)), wides_own, narrows_own, whole_row, take-add, drop-drop)

@@ -15,7 +15,7 @@ use Rattle.lists.proofs.Tabs.{gather-tab}
 use Rattle.lists.proofs.Fronts.{Fronted, fronted_inside, fronted_all}
 use Rattle.lists.proofs.Places.{place-select}
 use Rattle.lists.proofs.Laid.{Laid}
-use Rattle.lists.proofs.Evenly.{even_room, even-more, even-all}
+use Rattle.lists.proofs.Evenly.{even_room, even_more, even_all}
 use Rattle.cells.specs.Be.{be_bytes, Wrote}
 use Rattle.cells.specs.Sign.{signed_bytes, Size}
 use Rattle.cells.proofs.Cells.{length-be_bytes, wrote_cat}
@@ -78,12 +78,12 @@ module _ (s : List ℕ) (at item size : ℕ) (w : List ℕ) (wide first : ℕ) w
   pub cells_more : {old out out' : List ℕ} {k pos c : ℕ} (v : ℕ) → Laid cell_in old k pos out → pos + size ≤ length old
       → Wrote out pos (be_bytes size v) out' → be_bytes size v ≡ signed_bytes size (delta s at item c) → c ≡ column_in w wide (first + k)
       → Laid cell_in old (k + 1) (pos + size) out'
-  cells_more v l h p e q = even-more cell size length-cell column l h (p.is ∙ rw (e, q))
+  cells_more v l h p e q = even_more cell size length-cell column l h (p.is ∙ rw (e, q))
 
   pub cells_all : {old out : List ℕ} {k pos : ℕ} (n : ℕ) → Laid cell_in old k pos out → k ≡ n → length old ≡ n * size
       → out ≡ cells_of s at item size (columns_from w wide first n)
   unfolding columns_from
-  cells_all n = even-all cell size length-cell column n
+  cells_all n = even_all cell size length-cell column n
 
   pub length_cells : (n : ℕ) → length (cells_of s at item size (columns_from w wide first n)) ≡ n * size
   unfolding columns_from
@@ -138,19 +138,19 @@ module _ (s : List ℕ) (at : ℕ) (w : List ℕ) (p : Columns) (from : ℕ) whe
   pub rows_all : {old out : List ℕ} {k pos : ℕ} (n : ℕ) → Laid row_in old k pos out → k ≡ n → length old ≡ n * row_of p
       → out ≡ flat (λ i. row_bytes s at (plan_in w p) i) (items_in w from n)
   unfolding items_in
-  rows_all n = even-all row (row_of p) length_item item n
+  rows_all n = even_all row (row_of p) length_item item n
 
   -- the same, where a turn may spoil what lies behind its row
-  rows-length : (n : ℕ) → length (gather row_in n) ≡ n * row_of p
-  rows-length = gather-length row_in (row_of p) (λ k. length_item (item k))
+  rows_length : (n : ℕ) → length (gather row_in n) ≡ n * row_of p
+  rows_length = gather-length row_in (row_of p) (λ k. length_item (item k))
 
   pub front_room : {old out : List ℕ} {k pos : ℕ} (n : ℕ) → Fronted row_in old k pos out → k < n → length old ≡ n * row_of p → pos + row_of p ≤ length old
-  front_room {k = k} n l h e = omega (arith, rows-length n, length_item (item k), fronted_inside n l h (omega (arith, rows-length n)))
+  front_room {k = k} n l h e = omega (arith, rows_length n, length_item (item k), fronted_inside n l h (omega (arith, rows_length n)))
 
   pub front_all : {old out : List ℕ} {k pos : ℕ} (n : ℕ) → Fronted row_in old k pos out → k ≡ n → length old ≡ n * row_of p
       → out ≡ flat (λ i. row_bytes s at (plan_in w p) i) (items_in w from n)
   unfolding items_in
-  front_all n l e h = fronted_all n l e (omega (arith, rows-length n)) ∙ gather-tab row item n
+  front_all n l e h = fronted_all n l e (omega (arith, rows_length n)) ∙ gather-tab row item n
 
 -- ---- the new region indexes of the kept columns
 
@@ -164,11 +164,11 @@ module _ (s : List ℕ) (at : ℕ) (w : List ℕ) (wide : ℕ) where
   abbrev place : ℕ → ℕ
   place j = column_in w wide j
 
-  length-index : (c : ℕ) → length (index c) ≡ 2
-  length-index c = length-be_bytes 2 (new_region (used_of s w) (region_index s at c))
+  length_index : (c : ℕ) → length (index c) ≡ 2
+  length_index c = length-be_bytes 2 (new_region (used_of s w) (region_index s at c))
 
   pub indexes_room : {old out : List ℕ} {j pos : ℕ} (n : ℕ) → Laid index_in old j pos out → j < n → length old ≡ n * 2 → pos + 2 ≤ length old
-  indexes_room n = even_room index 2 length-index place n
+  indexes_room n = even_room index 2 length_index place n
 
   -- the next column, c, names region r, of which v used ones are below
   pub indexes_more : {old out out' : List ℕ} {j pos c r : ℕ} (v : ℕ) → Laid index_in old j pos out → pos + 2 ≤ length old
@@ -177,12 +177,12 @@ module _ (s : List ℕ) (at : ℕ) (w : List ℕ) (wide : ℕ) where
   unfolding new_region
   indexes_more {j = j} {r = r} v l h p e f g a b =
       let q : r ≡ region_index s at (column_in w wide j) = f ∙ ap (region_index s at) g in
-      even-more index 2 length-index place l h (p.is ∙ rw (e, ← q, place-select (has (used_in w)) r (region_count s) a b))
+      even_more index 2 length_index place l h (p.is ∙ rw (e, ← q, place-select (has (used_in w)) r (region_count s) a b))
 
   pub indexes_all : {old out : List ℕ} {j pos : ℕ} (narrow : ℕ) → Laid index_in old j pos out → j ≡ wide + narrow → length old ≡ (wide + narrow) * 2
       → out ≡ indexes_of s at (used_of s w) (columns_in w wide narrow)
   unfolding columns_in
-  indexes_all narrow = even-all index 2 length-index place (wide + narrow)
+  indexes_all narrow = even_all index 2 length_index place (wide + narrow)
 
 -- a kept column, c, names a region that is there and marked
 pub names : {s : List ℕ} {at : ℕ} {w : List ℕ} {p : Columns} {j c r : ℕ} → Named s at w p → j < p.wide + p.narrow → c ≡ column_in w p.wide j

@@ -25,9 +25,9 @@ module _ (maps : ℕ) (t es : List ℕ) where
   bad_list e = rw e
 
   module _ (list : bad_glyphs es ≡ false) where
-    pub short-header : bad_header maps t ≡ true → cut_table maps t es ≡ refused BadHeader
+    pub short_header : bad_header maps t ≡ true → cut_table maps t es ≡ refused BadHeader
     unfolding cut_table
-    short-header e = rw (list, e)
+    short_header e = rw (list, e)
 
     pub null_store_lem : bad_header maps t ≡ false → store_at t ≡ 0 → cut_table maps t es ≡ written (null_table maps t)
     unfolding cut_table
@@ -67,6 +67,6 @@ module _ {maps : ℕ} {t es : List ℕ} (p : Passed maps t es) (s : List ℕ) (i
       unfolding cut_table
       bad_outer_lem m e = rw (p.glyphs, p.header, p.there, ← is, opened, ← counted, ne_eqb count 0 some, m, e)
 
-      pub all-passed : bad_maps maps t ≡ false → bad_outer count (named_pairs maps t es) ≡ false → cut_table maps t es ≡ cut_kept maps t es (kept_pairs maps t es)
+      pub all_passed : bad_maps maps t ≡ false → bad_outer count (named_pairs maps t es) ≡ false → cut_table maps t es ≡ cut_kept maps t es (kept_pairs maps t es)
       unfolding cut_table
-      all-passed m e = rw (p.glyphs, p.header, p.there, ← is, opened, ← counted, ne_eqb count 0 some, m, e)
+      all_passed m e = rw (p.glyphs, p.header, p.there, ← is, opened, ← counted, ne_eqb count 0 some, m, e)

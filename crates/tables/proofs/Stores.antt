@@ -19,9 +19,9 @@ use Rattle.plan.specs.Layout.{Passed as PlanPassed}
 use Rattle.bits.specs.Bits.{has}
 use Rattle.lists.proofs.Cuts.{part_same}
 use Rattle.laws.specs.Lengths.{length_null}
-use Rattle.numbering.proofs.Kept.{pairs-kept, numbered-kept}
-use Rattle.laws.specs.Glyphs.{good-glyphs}
-use Rattle.laws.specs.Inside.{header-inside}
+use Rattle.numbering.proofs.Kept.{pairs_kept, numbered_kept}
+use Rattle.laws.specs.Glyphs.{good_glyphs}
+use Rattle.laws.specs.Inside.{header_inside}
 use Rattle.numbering.specs.Numbered.{Checked, Numbered}
 use Rattle.maps.proofs.Plans.{ready}
 use Rattle.frame.specs.Plans.{Collected}
@@ -74,9 +74,9 @@ pub checked : {maps count : ℕ} {t es : List ℕ} → Passed maps t es → bad_
 checked {maps} {count} {t} {es} p m few named = record {
   some = p.one;
   most = p.four;
-  head = (header-inside maps t p.header).head;
+  head = (header_inside maps t p.header).head;
   usable = m;
-  short = (good-glyphs es p.glyphs).few;
+  short = (good_glyphs es p.glyphs).few;
   few = few;
   named = named;
 }
@@ -90,8 +90,8 @@ collected c g e d = record { four = c.most; header = c.head; pairs = e; numbered
 pub still_collected : {maps : ℕ} {t es : List ℕ} {n : ℕ} {w : List ℕ} {v : List ℕ} → Collected maps t es n w → take 8704 v ≡ take 8704 w → length v ≡ length w
     → Collected maps t es n v
 still_collected {v = v} c e l =
-    let same = pairs-kept c.numbered v e in
-    let numbered = numbered-kept c.numbered v e l in
+    let same = pairs_kept c.numbered v e in
+    let numbered = numbered_kept c.numbered v e l in
     record {
       four = c.four;
       header = c.header;

@@ -5,7 +5,7 @@ use Rattle.rules.specs.Numbering.{new_inner}
 use Rattle.sources.specs.Pairs.{pair_at}
 use Rattle.maps.specs.Plans.{kept_in}
 use Rattle.maps.proofs.Plans.{kept_parts, renumbered_is, under_limit}
-use Rattle.maps.proofs.Most.{Most, most_none, most-more, most_under, most_end, bits_full, bits-all}
+use Rattle.maps.proofs.Most.{Most, most_none, most_more, most_under, most_end, bits_full, bits_all}
 use Rattle.maps.proofs.new_inner_bits.Goals as goal
 use Rattle.maps.proofs.new_inner_bits.Goals.{After-greater-most}
 
@@ -13,7 +13,7 @@ use Rattle.maps.proofs.new_inner_bits.Goals.{After-greater-most}
 turn : (c : After-greater-most) → let a = c.args in
     Most (λ e. new_inner (kept_in a.n a.work.now) (pair_at a.t.now a.map.at (old_id e))) a.glyphs.now (c.loop-i.i - 1) c.greater-most.result
 turn c =
-    rw c.greater-most.ensures (most-more c.loop-i.invariant c.loop-i-test.true (renumbered_is c.glyph_pair-old.ensures c.renumbered-new.ensures).inner)
+    rw c.greater-most.ensures (most_more c.loop-i.invariant c.loop-i-test.true (renumbered_is c.glyph_pair-old.ensures c.renumbered-new.ensures).inner)
 
 pub loop-i-init : goal.loop-i-init
 loop-i-init c = most_none
@@ -33,4 +33,4 @@ pub loop-i-preserved : goal.loop-i-preserved
 loop-i-preserved c = turn (goal.at.loop-i-preserved c).After-greater-most
 
 pub returns : goal.returns
-returns c = bits-all (most_end c.loop-i.invariant (search rules)) c.inner_bits-2.ensures
+returns c = bits_all (most_end c.loop-i.invariant (search rules)) c.inner_bits-2.ensures

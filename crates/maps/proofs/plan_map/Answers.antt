@@ -2,7 +2,7 @@ use mathlib.Core.Path.{◌≡◌, refl}
 use mathlib.Core.Bool.{true}
 use native.Mathlib.Omega.{arith}
 use Rattle.rules.specs.Maps.{is_written}
-use Rattle.maps.proofs.Plans.{written_is, not_written, some-listed, kept_at, planned}
+use Rattle.maps.proofs.Plans.{written_is, not_written, some_listed, kept_at, planned}
 use Rattle.maps.proofs.plan_map.Goals as goal
 use Rattle.maps.proofs.plan_map.Goals.{Then-is_written}
 
@@ -17,7 +17,7 @@ pub new_inner_bits-bits-requires-clause-bounds : goal.new_inner_bits-bits-requir
 new_inner_bits-bits-requires-clause-bounds c = c.requires.bounds
 
 pub count_of-requires-clause-glyphs_nonzero : goal.count_of-requires-clause-glyphs_nonzero
-count_of-requires-clause-glyphs_nonzero c = some-listed _ _ _ (written (goal.at.count_of-requires-clause-glyphs_nonzero c).Then-is_written)
+count_of-requires-clause-glyphs_nonzero c = some_listed _ _ _ (written (goal.at.count_of-requires-clause-glyphs_nonzero c).Then-is_written)
 
 pub returns-then-is_written : goal.returns-then-is_written
 returns-then-is_written c = planned c.requires.ready (written (goal.at.returns-then-is_written c).Then-is_written) (λ i. omega (arith, c.type_inv.t i)) c.source_of-map.ensures.0

@@ -2,7 +2,7 @@ use Prim.Native.Nat.{◌-◌}
 use native.Mathlib.Omega.{arith}
 use borrow.Author.Rules.{rules}
 use Rattle.rows.proofs.Plans.{planned_inside}
-use Rattle.measure.proofs.Kept.{bytes_small, bytes_are, few-kept, length-items}
+use Rattle.measure.proofs.Kept.{bytes_small, bytes_are, few_kept, length-items}
 use Rattle.measure.proofs.Steps.{step_of, fits_more}
 use Rattle.measure.proofs.measure_run.Goals as goal
 
@@ -16,7 +16,7 @@ pub with_subtable-requires : goal.with_subtable-requires
 with_subtable-requires c = let o = c.requires.opened in
     let p = c.plan_columns-p.ensures.planned in
     let b = bytes_small o p (c.args.to - c.args.from) c.subtable_length-length.ensures in
-    (c.requires.fits.1, omega (arith, c.requires.fits.0.few, c.requires.fits.0.small), omega (arith, b), few-kept o p)
+    (c.requires.fits.1, omega (arith, c.requires.fits.0.few, c.requires.fits.0.small), omega (arith, b), few_kept o p)
 
 pub returns : goal.returns
 returns c = let w = c.args.work.now in
@@ -29,5 +29,5 @@ returns c = let w = c.args.work.now in
     (bytes_are o p n e (length-items w c.args.from c.args.to (search rules) (omega arith))) in
     record {
       step = rw c.with_subtable.ensures step;
-      fits_2 = rw c.with_subtable.ensures (fits_more c.args.to c.plan_columns-p.result _ c.requires.fits.0 c.requires.fits.1 (search rules) (bytes_small o p n e));
+      fits_after = rw c.with_subtable.ensures (fits_more c.args.to c.plan_columns-p.result _ c.requires.fits.0 c.requires.fits.1 (search rules) (bytes_small o p n e));
     }

@@ -48,7 +48,7 @@ loop-at-preserved c = let l = c.loop-at in
     let e = front_same w l.work 8704 c.measure_run-m.ensures.step.low n (omega arith) in
     let u = rw c.in-Open.is at c.open_subtable.ensures in
     let f : outers_fall (take n l.work) ≡ false = rw (front_same l.work c.args.work.now 8704 l.invariant.1 n (omega arith)) c.requires.none_used.1 in
-    (search rules, c.measure_run-m.ensures.step.low ∙ l.invariant.1, rw e (turn_more (omega arith) l.invariant.2 c.end_of_run-end.ensures c.requires.s_value f u c.measure_run-m.ensures.step c.measure_run-m.ensures.fits_2))
+    (search rules, c.measure_run-m.ensures.step.low ∙ l.invariant.1, rw e (turn_more (omega arith) l.invariant.2 c.end_of_run-end.ensures c.requires.s_value f u c.measure_run-m.ensures.step c.measure_run-m.ensures.fits_after))
 
 pub returns-clause-measuring : goal.returns-clause-measuring
 returns-clause-measuring c = let l = c.loop-at in

@@ -1,8 +1,8 @@
 use lib.ListN.{length-append}
 use Rattle.cells.proofs.Cells.{length-be_bytes, wrote_cat}
-use Rattle.objects.proofs.Filled.{wrote-whole}
+use Rattle.objects.proofs.Filled.{wrote_whole}
 use Rattle.objects.proofs.put_header.Goals as goal
 
 pub returns : goal.returns
 returns c = let w = wrote_cat (wrote_cat c.put_u16.ensures c.put_u32.ensures (simp length-be_bytes)) c.put_u16-2.ensures (simp (length-append, length-be_bytes)) in
-    wrote-whole w (simp (length-append, length-be_bytes) c.requires.out_len)
+    wrote_whole w (simp (length-append, length-be_bytes) c.requires.out_len)

@@ -4,25 +4,25 @@ use native.Mathlib.Omega.{arith}
 use lib.ListN.{length-take, length-drop}
 use borrow.Author.Rules.{rules}
 use Rattle.lists.proofs.Laid.{laid_none, laid_more}
-use Rattle.laws.specs.Inside.{regions-inside}
-use Rattle.objects.proofs.Lists.{Copying, copying, records-all}
+use Rattle.laws.specs.Inside.{regions_inside}
+use Rattle.objects.proofs.Lists.{Copying, copying, records_all}
 use Rattle.objects.proofs.put_records.Goals as goal
 use Rattle.objects.proofs.put_records.Goals.{After-used_length-length}
 
 turn : (c : After-used_length-length) → let l = c.loop-r in let a = c.args in Copying a.s.now a.work.now a.out.now l.r l.next l.from c.used_length-length.result
 turn c =
     let l = c.loop-r in
-    copying c.args.s.now c.args.work.now (regions-inside _ c.requires.work_len.2).inside c.args.size c.requires.out_len l.invariant.3 (omega arith) l.invariant.2 c.requires.size_value.0 c.used_length-length.ensures
+    copying c.args.s.now c.args.work.now (regions_inside _ c.requires.work_len.2).inside c.args.size c.requires.out_len l.invariant.3 (omega arith) l.invariant.2 c.requires.size_value.0 c.used_length-length.ensures
 
 pub overflow_add-from : goal.overflow_add-from
-overflow_add-from c = let i = regions-inside _ c.requires.work_len.2 in omega (arith, c.regions_at-from.ensures, i.head)
+overflow_add-from c = let i = regions_inside _ c.requires.work_len.2 in omega (arith, c.regions_at-from.ensures, i.head)
 
 pub loop-r-init : goal.loop-r-init
-loop-r-init c = let i = regions-inside _ c.requires.work_len.2 in
+loop-r-init c = let i = regions_inside _ c.requires.work_len.2 in
     (search rules, search rules, omega (arith, c.regions_at-from.ensures), laid_none _ _)
 
 pub used_length-length-requires : goal.used_length-length-requires
-used_length-length-requires c = (search rules, omega (arith, (regions-inside _ c.requires.work_len.2).few))
+used_length-length-requires c = (search rules, omega (arith, (regions_inside _ c.requires.work_len.2).few))
 
 pub overflow_add-end : goal.overflow_add-end
 overflow_add-end c = omega (arith, turn c)
@@ -51,4 +51,4 @@ loop-r-preserved c = let l = c.loop-r in
     (search rules, omega arith, omega (arith, l.invariant.2), laid_more l.invariant.3 (omega (arith, t.size)) t.room b)
 
 pub returns : goal.returns
-returns c = records-all c.args.s.now c.args.work.now (regions-inside _ c.requires.work_len.2).inside c.requires.out_len c.loop-r.invariant.3 (omega arith)
+returns c = records_all c.args.s.now c.args.work.now (regions_inside _ c.requires.work_len.2).inside c.requires.out_len c.loop-r.invariant.3 (omega arith)

@@ -4,7 +4,7 @@ use native.Mathlib.Nat.{add-sub_cancel_left}
 use native.Mathlib.Omega.{arith}
 use lib.ListN.{get_or, length-take, length-drop}
 use borrow.Author.Rules.{rules}
-use Rattle.objects.proofs.Going.{RunPart, going_run, going_first, pairs-few, going_climb, going_more, going_all}
+use Rattle.objects.proofs.Going.{RunPart, going_run, going_first, pairs_few, going_climb, going_more, going_all}
 use Rattle.objects.proofs.put_subtables.Goals as goal
 use Rattle.objects.proofs.put_subtables.Goals.{After-end_of_run-end}
 
@@ -17,7 +17,7 @@ pub loop-at-init : goal.loop-at-init
 loop-at-init c = (search rules, search rules, going_first _ _ c.requires.passed c.requires.out_len)
 
 pub end_of_run-end-requires-clause-n_in_bounds : goal.end_of_run-end-requires-clause-n_in_bounds
-end_of_run-end-requires-clause-n_in_bounds c = omega (arith, pairs-few c.args.work.now c.args.n c.requires.passed, c.requires.passed.area)
+end_of_run-end-requires-clause-n_in_bounds c = omega (arith, pairs_few c.args.work.now c.args.n c.requires.passed, c.requires.passed.area)
 
 pub end_of_run-end-requires-clause-pairs_value : goal.end_of_run-end-requires-clause-pairs_value
 end_of_run-end-requires-clause-pairs_value c = going_climb c.requires.passed c.loop-at.invariant.2

@@ -3,11 +3,11 @@ use mathlib.Core.Path.{◌≡◌}
 use native.Mathlib.Omega.{arith}
 use borrow.Author.Rules.{rules}
 use Rattle.pairs.specs.Pairs.{OneOuter}
-use Rattle.pairs.proofs.Laws.{one-first, one_leap}
+use Rattle.pairs.proofs.Laws.{one_first, one_leap}
 use Rattle.pairs.proofs.leap.Goals as goal
 
 pub loop-end-init : goal.loop-end-init
-loop-end-init c = (one-first _ _, search rules)
+loop-end-init c = (one_first _ _, search rules)
 
 pub returns-then-pairs-end : goal.returns-then-pairs-end
 returns-then-pairs-end c = c.loop-end.invariant

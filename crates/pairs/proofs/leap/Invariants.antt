@@ -3,7 +3,7 @@ use mathlib.Core.Path.{◌≡◌}
 use native.Mathlib.Omega.{arith}
 use borrow.Author.Rules.{rules}
 use Rattle.pairs.specs.Pairs.{OneOuter}
-use Rattle.pairs.proofs.Laws.{one-first, one_leap}
+use Rattle.pairs.proofs.Laws.{one_first, one_leap}
 use Rattle.pairs.proofs.leap.Given as goal
 
 abbrev pub invariant-loop-end : goal.invariant-loop-end

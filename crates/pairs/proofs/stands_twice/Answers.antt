@@ -9,7 +9,7 @@ use Rattle.lists.proofs.Tests.{some_none, some_more, some_at}
 use Rattle.laws.specs.Pairs.{twice-some, again}
 use Rattle.lists.specs.Search.{some}
 use Rattle.pairs.specs.Pairs.{Held}
-use Rattle.pairs.proofs.Laws.{inners-again, inners-more}
+use Rattle.pairs.proofs.Laws.{inners_again, inners_more}
 use Rattle.pairs.proofs.stands_twice.Goals as goal
 
 pub loop-i-init : goal.loop-i-init
@@ -17,15 +17,15 @@ loop-i-init c = (search rules, search rules, record { is = λ h. absurd (not-suc
 
 pub returns-then-contains : goal.returns-then-contains
 returns-then-contains c = let l = c.loop-i in
-    let h = inners-again c.args.pairs.now l.i c.turn_to.ensures in
+    let h = inners_again c.args.pairs.now l.i c.turn_to.ensures in
     sym (twice-some _ ∙ some_at _ l.i _ (omega arith) (sym h ∙ sym c.contains.ensures ∙ c.if-contains.true))
 
 pub loop-i-preserved : goal.loop-i-preserved
 loop-i-preserved c = let l = c.loop-i in
-    let i = inners-again c.args.pairs.now l.i c.turn_to.ensures in (
+    let i = inners_again c.args.pairs.now l.i c.turn_to.ensures in (
       omega arith,
       omega arith,
-      rw c.put.ensures (inners-more c.args.pairs.now l.i (omega arith) (omega arith) c.turn_to.ensures),
+      rw c.put.ensures (inners_more c.args.pairs.now l.i (omega arith) (omega arith) c.turn_to.ensures),
       some_more _ l.i l.invariant.3 (sym i ∙ sym c.contains.ensures ∙ c.if-contains.false),
     )
 

@@ -9,7 +9,7 @@ use Rattle.lists.proofs.Tests.{some_none, some_more, some_at}
 use Rattle.laws.specs.Pairs.{twice-some, again}
 use Rattle.lists.specs.Search.{some}
 use Rattle.pairs.specs.Pairs.{Held}
-use Rattle.pairs.proofs.Laws.{inners-again, inners-more}
+use Rattle.pairs.proofs.Laws.{inners_again, inners_more}
 use Rattle.pairs.proofs.stands_twice.Given as goal
 
 abbrev pub invariant-loop-i : goal.invariant-loop-i

@@ -1,11 +1,11 @@
 use mathlib.Core.Path.{◌∙◌}
 use native.Mathlib.Omega.{arith}
 use Rattle.opentype.specs.Store.{axis_count}
-use Rattle.laws.specs.Inside.{regions-inside}
+use Rattle.laws.specs.Inside.{regions_inside}
 use Rattle.plan.proofs.axis_count.Goals as goal
 
 pub u16_at-requires : goal.u16_at-requires
-u16_at-requires c = omega (arith, c.regions_at.ensures, (regions-inside _ c.requires.1).head)
+u16_at-requires c = omega (arith, c.regions_at.ensures, (regions_inside _ c.requires.1).head)
 
 pub returns : goal.returns
 unfolding axis_count

@@ -4,12 +4,12 @@ use lib.ListN.{take}
 use Rattle.rules.specs.Lists.{runs}
 use Rattle.rules.specs.StoreCut.{checked_cut}
 use Rattle.lists.proofs.Cuts.{front_same}
-use Rattle.laws.specs.Inside.{regions-inside}
+use Rattle.laws.specs.Inside.{regions_inside}
 use Rattle.plan.proofs.Plans.{plan_whole}
 use Rattle.plan.proofs.plan_runs.Goals as goal
 
 pub measure_runs-requires-clause-regions_value : goal.measure_runs-requires-clause-regions_value
-measure_runs-requires-clause-regions_value c = (c.region_count.ensures, omega (arith, c.region_count.ensures, (regions-inside _ c.requires.s_value.1).few))
+measure_runs-requires-clause-regions_value c = (c.region_count.ensures, omega (arith, c.region_count.ensures, (regions_inside _ c.requires.s_value.1).few))
 
 pub measure_runs-requires-clause-none_used : goal.measure_runs-requires-clause-none_used
 measure_runs-requires-clause-none_used c =

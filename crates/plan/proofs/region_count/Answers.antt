@@ -1,14 +1,14 @@
 use mathlib.Core.Path.{◌∙◌}
 use native.Mathlib.Omega.{arith}
 use Rattle.opentype.specs.Store.{region_count}
-use Rattle.laws.specs.Inside.{regions-inside}
+use Rattle.laws.specs.Inside.{regions_inside}
 use Rattle.plan.proofs.region_count.Goals as goal
 
 pub overflow_add-regions_at : goal.overflow_add-regions_at
-overflow_add-regions_at c = omega (arith, c.regions_at.ensures, (regions-inside _ c.requires.1).head)
+overflow_add-regions_at c = omega (arith, c.regions_at.ensures, (regions_inside _ c.requires.1).head)
 
 pub u16_at-requires : goal.u16_at-requires
-u16_at-requires c = omega (arith, c.regions_at.ensures, (regions-inside _ c.requires.1).head)
+u16_at-requires c = omega (arith, c.regions_at.ensures, (regions_inside _ c.requires.1).head)
 
 pub returns : goal.returns
 unfolding region_count

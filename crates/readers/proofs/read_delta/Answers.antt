@@ -1,12 +1,12 @@
 use Rattle.std.proofs.Common.{sym, ◌∙◌}
 use Rattle.cells.proofs.Twos.{same32}
 use Rattle.rules.specs.Readers.{delta_of}
-use Rattle.readers.proofs.Answers.{usable, unusable, store-refused, subtable_refused, delta_found}
+use Rattle.readers.proofs.Answers.{usable, unusable, store_refused, subtable_refused, delta_found}
 use Rattle.readers.proofs.read_delta.Goals as goal
 
 pub returns-then-bad_store : goal.returns-then-bad_store
 unfolding delta_of
-returns-then-bad_store c = store-refused _ _ _ _ (sym c.bad_store.ensures ∙ c.if-bad_store.true)
+returns-then-bad_store c = store_refused _ _ _ _ (sym c.bad_store.ensures ∙ c.if-bad_store.true)
 
 pub returns-in-Open : goal.returns-in-Open
 returns-in-Open c =

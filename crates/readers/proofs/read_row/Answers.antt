@@ -1,12 +1,12 @@
 use Rattle.std.proofs.Common.{sym, ◌∙◌}
 use Rattle.rules.specs.Readers.{row_of}
-use Rattle.readers.proofs.Answers.{usable, unusable, store-refused, subtable_refused, row_found, row_absent, parts}
+use Rattle.readers.proofs.Answers.{usable, unusable, store_refused, subtable_refused, row_found, row_absent, parts}
 use Rattle.readers.proofs.read_row.Goals as goal
 
 pub returns-then-bad_store : goal.returns-then-bad_store
 unfolding row_of
 returns-then-bad_store c =
-    let r = parts (store-refused _ _ _ _ (sym c.bad_store.ensures ∙ c.if-bad_store.true)) in
+    let r = parts (store_refused _ _ _ _ (sym c.bad_store.ensures ∙ c.if-bad_store.true)) in
     record { number_after = r.0; result_value = r.1 }
 
 pub returns-then-t-item : goal.returns-then-t-item

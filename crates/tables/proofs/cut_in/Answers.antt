@@ -2,9 +2,9 @@ use mathlib.Core.Path.{sym, ◌∙◌}
 use native.Mathlib.Omega.{arith}
 use Rattle.lists.specs.Pick.{ne_via}
 use Rattle.opentype.specs.Table.{store_at}
-use Rattle.laws.specs.Inside.{header-inside}
+use Rattle.laws.specs.Inside.{header_inside}
 use Rattle.laws.specs.Fitted.{fit_refused, fit_as}
-use Rattle.tables.proofs.Chain.{bad_list, short-header, null_store_lem}
+use Rattle.tables.proofs.Chain.{bad_list, short_header, null_store_lem}
 use borrow.Author.Rules.{rules}
 use Rattle.tables.proofs.cut_in.Goals as goal
 
@@ -12,13 +12,13 @@ pub returns-then-bad_glyphs : goal.returns-then-bad_glyphs
 returns-then-bad_glyphs c = fit_refused (bad_list _ _ _ (sym c.bad_glyphs.ensures ∙ c.if-bad_glyphs.true))
 
 pub returns-then-bad_header : goal.returns-then-bad_header
-returns-then-bad_header c = fit_refused (short-header _ _ _ (sym c.bad_glyphs.ensures ∙ c.if-bad_glyphs.false) (sym c.bad_header.ensures ∙ c.if-bad_header.true))
+returns-then-bad_header c = fit_refused (short_header _ _ _ (sym c.bad_glyphs.ensures ∙ c.if-bad_glyphs.false) (sym c.bad_header.ensures ∙ c.if-bad_header.true))
 
 pub u32_at-at-requires : goal.u32_at-at-requires
-u32_at-at-requires c = omega (arith, (header-inside _ _ (sym c.bad_header.ensures ∙ c.if-bad_header.false)).head)
+u32_at-at-requires c = omega (arith, (header_inside _ _ (sym c.bad_header.ensures ∙ c.if-bad_header.false)).head)
 
 pub cut_null-requires : goal.cut_null-requires
-cut_null-requires c = (c.requires.2, omega (arith, (header-inside _ _ (sym c.bad_header.ensures ∙ c.if-bad_header.false)).head))
+cut_null-requires c = (c.requires.2, omega (arith, (header_inside _ _ (sym c.bad_header.ensures ∙ c.if-bad_header.false)).head))
 
 pub returns-then-at-eq0 : goal.returns-then-at-eq0
 unfolding store_at

@@ -4,7 +4,7 @@ use mathlib.Core.Path.{◌≡◌, ◌∙◌}
 use mathlib.Core.Bool.{true, false}
 use borrow.Author.Rules.{rules}
 use Rattle.lists.proofs.Tests.{some_none, some_more, some_at}
-use Rattle.columns.proofs.Searches.{unfound_none, unfound_more, found_here, found_nowhere, not-long, by-words}
+use Rattle.columns.proofs.Searches.{unfound_none, unfound_more, found_here, found_nowhere, not-long, by_words}
 use Rattle.columns.proofs.long.keeps_long.Goals as goal
 
 pub returns-then-not-t : goal.returns-then-not-t
@@ -27,8 +27,8 @@ search-preserved c = let l = c.loop-k in
 pub returns-after-search : goal.returns-after-search
 returns-after-search c = let v = c.search.invariant in
     let n : c.search.column ≡ c.args.t.words = omega arith in
-    v.1 ∙ by-words c.requires c.args.pairs.now (not-false _ c.if-not-t.false) false (rw n at v.2)
+    v.1 ∙ by_words c.requires c.args.pairs.now (not-false _ c.if-not-t.false) false (rw n at v.2)
 
 pub returns-then-is_far : goal.returns-then-is_far
-returns-then-is_far c = by-words c.requires c.args.pairs.now (not-false _ c.if-not-t.false) true
+returns-then-is_far c = by_words c.requires c.args.pairs.now (not-false _ c.if-not-t.false) true
     (some_at _ _ _ c.search-test.true (found_here c.loop-k.invariant.1 c.loop-k-test.true c.is_far.ensures c.if-is_far.true))

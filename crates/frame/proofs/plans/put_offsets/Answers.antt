@@ -1,6 +1,6 @@
 use native.Mathlib.Omega.{arith}
 use borrow.Author.Rules.{rules}
-use Rattle.frame.proofs.Offsets.{offsets_none, offsets-more, offsets_end}
+use Rattle.frame.proofs.Offsets.{offsets_none, offsets_more, offsets_end}
 use Rattle.frame.proofs.plans.put_offsets.Goals as goal
 
 pub loop-m-init : goal.loop-m-init
@@ -14,7 +14,7 @@ map_length-at-requires c = c.requires.small.each c.loop-m.m c.loop-m-test.true
 
 pub loop-m-preserved : goal.loop-m-preserved
 loop-m-preserved c = let n = c.map_length-at.ensures in
-    (search rules, search rules, offsets-more c.loop-m.invariant.2 c.put_u32.ensures c.offset_of.ensures n.0 n.1)
+    (search rules, search rules, offsets_more c.loop-m.invariant.2 c.put_u32.ensures c.offset_of.ensures n.0 n.1)
 
 pub returns : goal.returns
 returns c = offsets_end c.args.maps c.loop-m.invariant.2 (omega arith) c.requires.maps_bound.1

@@ -3,13 +3,13 @@ use borrow.Author.Tests.{le-ltb}
 use Rattle.lists.specs.Pick.{chain}
 use Rattle.opentype.specs.Store.{regions_at, axis_count, region_count, record_length}
 use Rattle.rules.specs.Open.{bad_regions}
-use Rattle.laws.specs.Inside.{store-inside}
+use Rattle.laws.specs.Inside.{store_inside}
 use Rattle.readers.proofs.Fits.{records_fit}
 use borrow.Author.Rules.{rules}
 use Rattle.readers.proofs.open.bad_regions.Goals as goal
 
 pub u32_at-at-requires : goal.u32_at-at-requires
-u32_at-at-requires c = omega (arith, store-inside _ c.requires)
+u32_at-at-requires c = omega (arith, store_inside _ c.requires)
 
 pub returns-then-s-at : goal.returns-then-s-at
 unfolding bad_regions regions_at

@@ -1,7 +1,7 @@
 use Rattle.laws.specs.Rows.{row_inside, cell_has_size}
 use Rattle.cells.proofs.Twos.{same32}
 use native.Mathlib.Omega.{arith}
-use Rattle.readers.proofs.Subtables.{cell-ends, delta-there, delta_no_item, delta_no_column}
+use Rattle.readers.proofs.Subtables.{cell_ends, delta_there, delta_no_item, delta_no_column}
 use borrow.Author.Rules.{rules}
 use Rattle.readers.proofs.subtable.delta_of.Goals as goal
 
@@ -18,14 +18,14 @@ pub overflow_add-at : goal.overflow_add-at
 overflow_add-at c = omega (arith, row_inside _ _ c.args.t.row c.if-t-item.false)
 
 pub overflow_add-at-2 : goal.overflow_add-at-2
-overflow_add-at-2 c = omega (arith, cell-ends c.requires _ _ c.if-t-item.false c.if-t-column.false)
+overflow_add-at-2 c = omega (arith, cell_ends c.requires _ _ c.if-t-item.false c.if-t-column.false)
 
 pub cell-requires-clause-size : goal.cell-requires-clause-size
 cell-requires-clause-size c = rw c.cell_size.ensures (cell_has_size _ _ _)
 
 pub cell-requires-clause-size_in_bounds : goal.cell-requires-clause-size_in_bounds
-cell-requires-clause-size_in_bounds c = omega (arith, cell-ends c.requires _ _ c.if-t-item.false c.if-t-column.false)
+cell-requires-clause-size_in_bounds c = omega (arith, cell_ends c.requires _ _ c.if-t-item.false c.if-t-column.false)
 
 pub returns : goal.returns
-returns c = delta-there c.requires _ _ c.if-t-item.false c.if-t-column.false
+returns c = delta_there c.requires _ _ c.if-t-item.false c.if-t-column.false
     (rw (same32 c.cell.result c.cell.type_inv, ← c.cell_at.ensures, ← c.cell_size.ensures) c.cell.ensures)

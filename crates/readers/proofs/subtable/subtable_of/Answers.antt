@@ -1,31 +1,31 @@
 use native.Mathlib.Omega.{arith}
-use Rattle.readers.proofs.Subtables.{head-inside, columns-few, whole}
+use Rattle.readers.proofs.Subtables.{head_inside, columns_few, whole}
 use borrow.Author.Rules.{rules}
 use Rattle.readers.proofs.subtable.subtable_of.Goals as goal
 
 pub overflow_add-at : goal.overflow_add-at
-overflow_add-at c = omega (arith, head-inside _ _ c.requires)
+overflow_add-at c = omega (arith, head_inside _ _ c.requires)
 
 pub u16_at-field-requires : goal.u16_at-field-requires
-u16_at-field-requires c = omega (arith, head-inside _ _ c.requires)
+u16_at-field-requires c = omega (arith, head_inside _ _ c.requires)
 
 pub overflow_add-at-2 : goal.overflow_add-at-2
-overflow_add-at-2 c = omega (arith, head-inside _ _ c.requires)
+overflow_add-at-2 c = omega (arith, head_inside _ _ c.requires)
 
 pub u16_at-columns-requires : goal.u16_at-columns-requires
-u16_at-columns-requires c = omega (arith, head-inside _ _ c.requires)
+u16_at-columns-requires c = omega (arith, head_inside _ _ c.requires)
 
 pub u16_at-items-requires : goal.u16_at-items-requires
-u16_at-items-requires c = omega (arith, head-inside _ _ c.requires)
+u16_at-items-requires c = omega (arith, head_inside _ _ c.requires)
 
 pub row_length-row-requires : goal.row_length-row-requires
-row_length-row-requires c = columns-few _ _ c.requires c.u16_at-field.ensures c.u16_at-columns.ensures
+row_length-row-requires c = columns_few _ _ c.requires c.u16_at-field.ensures c.u16_at-columns.ensures
 
 pub overflow_add-rows : goal.overflow_add-rows
-overflow_add-rows c = omega (arith, head-inside _ _ c.requires)
+overflow_add-rows c = omega (arith, head_inside _ _ c.requires)
 
 pub overflow_add-rows-2 : goal.overflow_add-rows-2
-overflow_add-rows-2 c = omega (arith, head-inside _ _ c.requires, c.u16_at-columns.ensures.small)
+overflow_add-rows-2 c = omega (arith, head_inside _ _ c.requires, c.u16_at-columns.ensures.small)
 
 pub returns : goal.returns
 returns c = whole _ _ c.requires c.u16_at-field.ensures c.u16_at-columns.ensures c.u16_at-items.ensures c.row_length-row.ensures

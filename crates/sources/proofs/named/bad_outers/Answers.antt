@@ -1,4 +1,4 @@
-use Rattle.sources.proofs.Pairs.{named_past, map-good}
+use Rattle.sources.proofs.Pairs.{named_past, map_good}
 use Rattle.lists.proofs.Left.{some_end}
 use Rattle.lists.proofs.Tests.{some_none, some_more, some_at}
 use mathlib.Core.Path.{◌≡◌, sym, ◌∙◌}
@@ -10,7 +10,7 @@ pub loop-m-init : goal.loop-m-init
 loop-m-init c = (search rules, some_none _)
 
 pub past_in-requires-clause-m_value : goal.past_in-requires-clause-m_value
-past_in-requires-clause-m_value c = map-good _ _ _ c.requires.t_value c.loop-m-test.true
+past_in-requires-clause-m_value c = map_good _ _ _ c.requires.t_value c.loop-m-test.true
 
 pub returns-then-past_in : goal.returns-then-past_in
 returns-then-past_in c = sym (named_past _ _ _ _ ∙ some_at _ _ _ c.loop-m-test.true (sym c.past_in.ensures ∙ c.if-past_in.true))

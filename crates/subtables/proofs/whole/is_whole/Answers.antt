@@ -1,7 +1,7 @@
 use mathlib.Core.Bool.{false≢true}
 use borrow.Author.Rules.{rules}
 use native.Mathlib.Omega.{arith}
-use Rattle.subtables.proofs.Wholes.{same_flag, own_none, own-more}
+use Rattle.subtables.proofs.Wholes.{same_flag, own_none, own_more}
 use Rattle.subtables.proofs.whole.is_whole.Goals as goal
 
 pub returns-then-p-t : goal.returns-then-p-t
@@ -20,7 +20,7 @@ pub returns-then-column_at-j : goal.returns-then-column_at-j
 returns-then-column_at-j c = λ e. absurd (false≢true e)
 
 pub loop-j-preserved : goal.loop-j-preserved
-loop-j-preserved c = (search rules, own-more c.loop-j.invariant.1 c.column_at.ensures c.if-column_at-j.false)
+loop-j-preserved c = (search rules, own_more c.loop-j.invariant.1 c.column_at.ensures c.if-column_at-j.false)
 
 pub returns : goal.returns
 returns c = λ e. record {

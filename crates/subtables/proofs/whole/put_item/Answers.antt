@@ -9,7 +9,7 @@ use borrow.Author.Rules.{rules}
 use Rattle.rows.specs.Length.{row_of}
 use Rattle.subtables.proofs.Writing.{length-row}
 use Rattle.readers.proofs.Subtables.{row_ends}
-use Rattle.subtables.proofs.Wholes.{whole_row, whole-written}
+use Rattle.subtables.proofs.Wholes.{whole_row, whole_written}
 use Rattle.subtables.proofs.whole.put_item.Goals as goal
 use Rattle.subtables.proofs.whole.put_item.Goals.{Else-item-t, Then-item-t}
 
@@ -41,7 +41,7 @@ pub returns-then-item-t : goal.returns-then-item-t
 returns-then-item-t c = let s = c.args.s.now in
     let from = c.args.t.rows + c.args.item * c.args.t.row in
     c.copy_ahead.ensures ∙ take-take c.args.t.row (length s - from) (drop from s) (omega (arith, inside (goal.at.returns-then-item-t c).Then-item-t))
-    ∙ whole-written c.requires.opened c.requires.fitted.1 (λ i. (c.type_inv.s i).fits) c.args.item c.if-item-t.true
+    ∙ whole_written c.requires.opened c.requires.fitted.1 (λ i. (c.type_inv.s i).fits) c.args.item c.if-item-t.true
 
 pub put_row-requires-clause-out_len : goal.put_row-requires-clause-out_len
 put_row-requires-clause-out_len c = let a = c.args in
