@@ -1,12 +1,11 @@
 -- A laid store, read again: its header, and where its objects stand. For any region list and any subtables whose sizes fit.
 use Prim.Native.Nat.{ℕ, zero, suc, ◌+◌, ◌*◌, ◌^◌, ◌<◌, ◌≤◌}
-use mathlib.Core.Path.{◌≡◌, refl, sym, ◌∙◌}
+use mathlib.Core.Path.{◌≡◌, refl, sym}
 use mathlib.Core.List.{List, [], ◌∷◌, ◌++◌}
 use native.Mathlib.Omega.{arith}
 use native.Mathlib.Nat.{zero-add, not-suc-le-zero}
-use lib.ListN.{length, get_or, take, length-append}
+use lib.ListN.{length, get_or, length-append}
 use Rattle.lists.specs.Gather.{flat}
-use Rattle.lists.proofs.Covers.{before}
 use Rattle.lists.proofs.Stands.{Stands, stands_at, stands_left, stands_right}
 use Rattle.cells.specs.Be.{be, be_bytes}
 use Rattle.opentype.specs.Store.{store_format, regions_at, subtable_count, subtable_at}
@@ -23,17 +22,17 @@ pub length-lay_store : (region_list : List ℕ) (parts : List (List ℕ))
 unfolding lay_store
 length-lay_store region_list parts = simp (length-append, length-be_bytes, length-offsets) (omega arith)
 
--- Parts laid one after the other from a place, and their offsets laid elsewhere: offset k names the place of part k, behind those before it.
-pub record Part (w : List ℕ) (cell at to : ℕ) (part : List ℕ) : Type 0 where
+-- Parts laid one after the other from a place, and their offsets laid elsewhere: offset k names the place of part k.
+pub record Part (w : List ℕ) (cell from to : ℕ) (part : List ℕ) : Type 0 where
   pub place : ℕ
   pub offset : Stands w cell (be_bytes 4 place)
   pub stands : Stands w place part
-  pub is : place ≡ at
+  pub from_on : from ≤ place
   pub up_to : place + length part ≤ to
 
 part_stands : {w : List ℕ} (cell from : ℕ) (parts : List (List ℕ)) (k : ℕ) → k < length parts
     → Stands w cell (offsets from parts) → Stands w from (flat (λ part. part) parts)
-    → Part w (cell + 4 * k) (from + before parts k) (from + length (flat (λ part. part) parts)) (get_or parts k [])
+    → Part w (cell + 4 * k) from (from + length (flat (λ part. part) parts)) (get_or parts k [])
 unfolding offsets flat
 part_stands cell from [] k h o s = absurd (not-suc-le-zero h)
 part_stands cell from (part ∷ parts) zero h o s =
@@ -43,7 +42,7 @@ part_stands cell from (part ∷ parts) zero h o s =
       place = from;
       offset = rw e (stands_left (be_bytes 4 from) (offsets (from + length part) parts) o);
       stands = stands_left part (flat (λ part. part) parts) s;
-      is = omega arith;
+      from_on = omega arith;
       up_to = omega arith;
     }
 part_stands {w} cell from (part ∷ parts) (suc k) h o s =
@@ -56,25 +55,25 @@ part_stands {w} cell from (part ∷ parts) (suc k) h o s =
       place = i.place;
       offset = rw e i.offset;
       stands = i.stands;
-      is = omega (arith, i.is, length-append part (flat (λ part. part) (take k parts)));
+      from_on = omega (arith, i.from_on);
       up_to = omega (arith, i.up_to);
     }
 
 -- the offset fits its cell, so the part stands where the cell says
-part_read : {w : List ℕ} {cell at to : ℕ} {part : List ℕ} → Part w cell at to part → to < 256 ^ 4 → Stands w (be 4 w cell) part × (be 4 w cell ≡ at)
+part_read : {w : List ℕ} {cell from to : ℕ} {part : List ℕ} → Part w cell from to part → to < 256 ^ 4 → Stands w (be 4 w cell) part × (from ≤ be 4 w cell)
 part_read {w} {cell} p h =
     let e : be 4 w cell ≡ p.place = be_back 4 p.place (omega (arith, p.up_to)) p.offset in
-    (rw e p.stands, e ∙ p.is)
+    (rw e p.stands, rw e p.from_on)
 
 -- What is read of a store that stands at the start of w.
 pub record LaidStore (w region_list : List ℕ) (parts : List (List ℕ)) : Type 0 where
   pub format : store_format w ≡ 1
   pub count : subtable_count w ≡ length parts
   pub array : 8 + 4 * length parts ≤ length w
-  pub list : regions_at w ≡ 8 + 4 * length parts
+  pub list : regions_at w ≡ 0 → ⊥
   pub regions : Stands w (regions_at w) region_list
   pub subtable : (k : ℕ) → k < length parts → Stands w (subtable_at w k) (get_or parts k [])
-  pub places : (k : ℕ) → k < length parts → subtable_at w k ≡ 8 + 4 * length parts + length region_list + before parts k
+  pub behind : (k : ℕ) → k < length parts → 8 ≤ subtable_at w k
 
 pub laid_store : {w : List ℕ} (region_list : List ℕ) (parts : List (List ℕ)) → length parts < 256 ^ 2 → length (lay_store region_list parts) < 256 ^ 4
     → Stands w 0 (lay_store region_list parts) → LaidStore w region_list parts
@@ -95,7 +94,7 @@ laid_store {w} region_list parts few small s =
     let at5 : 0 + length (format ++ regions ++ count ++ array) ≡ head = simp (length-append, length-be_bytes, length-offsets, zero-add) in
     let at6 : 0 + length (format ++ regions ++ count ++ array ++ region_list) ≡ head + length region_list
     = simp (length-append, length-be_bytes, length-offsets, zero-add) in
-    let offset : (k : ℕ) → k < n → Part w (8 + 4 * k) (head + length region_list + before parts k) (head + length region_list + length all) (get_or parts k [])
+    let offset : (k : ℕ) → k < n → Part w (8 + 4 * k) (head + length region_list) (head + length region_list + length all) (get_or parts k [])
     = λ k h. part_stands 8 (head + length region_list) parts k h
     (stands_at at4 (stands_right (format ++ regions ++ count) array s2))
     (stands_at at6 (stands_right (format ++ regions ++ count ++ array ++ region_list) all s)) in
@@ -104,8 +103,8 @@ laid_store {w} region_list parts few small s =
       format = be_back 2 1 (omega arith) (stands_left format regions (stands_left (format ++ regions) count s3));
       count = be_back 2 n few (stands_at (simp (length-append, length-be_bytes)) (stands_right (format ++ regions) count s3));
       array = omega (arith, s2.inside, at5);
-      list = list;
+      list = λ e. omega (arith, list, e);
       regions = stands_at (sym list) (stands_at at5 (stands_right (format ++ regions ++ count ++ array) region_list s1));
       subtable = λ k h. (part_read (offset k h) (omega arith)).0;
-      places = λ k h. (part_read (offset k h) (omega arith)).1;
+      behind = λ k h. let p = (part_read (offset k h) (omega arith)).1 in omega arith;
     }

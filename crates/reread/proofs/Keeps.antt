@@ -102,9 +102,9 @@ module _ {s pairs st w : List ℕ} (ok : Accepted s pairs st) (laid : Stands w 0
       let run : (k : ℕ) → k < subtable_count w → k < length rs = λ k h. rw count at h in
       record {
         header = good_store w store.format (rw count (runs_256 ok)) (omega arith) array;
-        list = λ e. omega (arith, store.list, e);
+        list = store.list;
         regions = good_regions w (omega (arith, regions.inside)) (rw regions.count (used_4096 ok)) regions.inside;
-        there = λ k h. good_offset w k h (λ e. omega (arith, store.places k (rw (parts_count s rs) (run k h)), e));
+        there = λ k h. good_offset w k h (λ e. omega (arith, store.behind k (rw (parts_count s rs) (run k h))));
         whole = λ k h.
             let new = subtable_again ok laid k (run k h) in
             let p = plan_for s (run_at rs k) in
