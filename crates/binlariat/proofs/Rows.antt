@@ -17,8 +17,8 @@ use Rattle.binlariat.specs.Exported.{RowGiven}
 
 module _ (s : List ℕ) (o i : ℕ) where
   -- an empty row stands at 0
-  pub no_row : {n : ℕ} → record { number = n; part = [] } ≡ row_of s o i → RowGiven s o i n 0 0
-  no_row e = let q = parts e in record { numbers = q.0; lengths = rw (← q.1); starts = rw (← q.1) }
+  pub no_row_lem : {n : ℕ} → record { number = n; part = [] } ≡ row_of s o i → RowGiven s o i n 0 0
+  no_row_lem e = let q = parts e in record { numbers = q.0; lengths = rw (← q.1); starts = rw (← q.1) }
 
   row-long : {t : Subtable} → Usable s o t → i < t.items
       → length (take (t.rows + i * t.row + t.row - (t.rows + i * t.row)) (drop (t.rows + i * t.row) s)) ≡ t.row

@@ -41,8 +41,8 @@ parts_of s rs = map (λ run. subtable_bytes s (used_regions s rs) run) rs
 pub parts_count : (s : List ℕ) (rs : List Run) → length (parts_of s rs) ≡ length rs
 parts_count s rs = length-map rs (λ run. subtable_bytes s (used_regions s rs) run)
 
-part_at : (s : List ℕ) (rs : List Run) (k : ℕ) → k < length rs → get_or (parts_of s rs) k [] ≡ subtable_bytes s (used_regions s rs) (run_at rs k)
-part_at s rs k h = get_d_map (λ run. subtable_bytes s (used_regions s rs) run) _ [] rs k h
+part_at_lem : (s : List ℕ) (rs : List Run) (k : ℕ) → k < length rs → get_or (parts_of s rs) k [] ≡ subtable_bytes s (used_regions s rs) (run_at rs k)
+part_at_lem s rs k h = get_d_map (λ run. subtable_bytes s (used_regions s rs) run) _ [] rs k h
 
 module _ {s pairs st w : List ℕ} (ok : Accepted s pairs st) (laid : Stands w 0 st) where
   pub store_again : LaidStore w (region_list_bytes s (used_regions s (runs pairs))) (parts_of s (runs pairs))
@@ -73,7 +73,7 @@ module _ {s pairs st w : List ℕ} (ok : Accepted s pairs st) (laid : Stands w 0
       laid_subtable s at (used_regions s rs) run.inners (plan_for s run) (omega arith) (omega arith)
       (λ c l. let q = (column_region s rs k c ok.indexes h l).0 in omega arith)
       (plan_fits s at run.inners (λ c l. no_column s rs _ k c ok.widths h l))
-      (rw (part_at s rs k h) at part)
+      (rw (part_at_lem s rs k h) at part)
 
   -- the length of a written row is the plan's
   pub row_length_written : (k : ℕ) → k < length (runs pairs) → row_length w (subtable_at w k) ≡ plan_length (plan_for s (run_at (runs pairs) k))
