@@ -43,7 +43,7 @@ slice_bounds-put_run-end c = omega (arith, turn (goal.at.slice_bounds-put_run-en
 pub put_run-requires-clause-work_len : goal.put_run-requires-clause-work_len
 put_run-requires-clause-work_len c = let t = turn (goal.at.put_run-requires-clause-work_len c).After-end_of_run-end in
     let l = c.loop-at in
-    (l.invariant.0 ∙ c.requires.passed.area, t.after, t.inside)
+    (l.invariant.0 ∙ c.requires.passed.area, omega (arith, t.after), t.inside)
 
 pub put_run-requires-clause-run_ready : goal.put_run-requires-clause-run_ready
 put_run-requires-clause-run_ready c = (turn (goal.at.put_run-requires-clause-run_ready c).After-end_of_run-end).ready

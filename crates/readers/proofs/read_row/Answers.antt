@@ -1,4 +1,5 @@
 use Rattle.std.proofs.Common.{sym, ◌∙◌}
+use native.Mathlib.Omega.{arith}
 use Rattle.rules.specs.Readers.{row_of}
 use Rattle.readers.proofs.Answers.{usable, unusable, store_refused, subtable_refused, row_found, row_absent, parts}
 use Rattle.readers.proofs.read_row.Goals as goal
@@ -11,7 +12,7 @@ returns-then-bad_store c =
 
 pub returns-then-t-item : goal.returns-then-t-item
 returns-then-t-item c =
-    let r = parts (sym (row_absent _ _ _ (sym c.bad_store.ensures ∙ c.if-bad_store.false) (usable c.open_subtable.ensures c.in-Open.is) c.if-t-item.true)) in
+    let r = parts (sym (row_absent _ _ _ (sym c.bad_store.ensures ∙ c.if-bad_store.false) (usable c.open_subtable.ensures c.in-Open.is) (omega (arith, c.if-t-item.true)))) in
     record { number_after = r.0; result_value = r.1 }
 
 pub returns-else-t-item : goal.returns-else-t-item

@@ -9,7 +9,7 @@ pub returns-then-t-item : goal.returns-then-t-item
 returns-then-t-item c = delta_no_item c.requires _ _ c.if-t-item.true
 
 pub returns-then-t-column : goal.returns-then-t-column
-returns-then-t-column c = delta_no_column c.requires _ _ c.if-t-item.false c.if-t-column.true
+returns-then-t-column c = delta_no_column c.requires _ _ c.if-t-item.false (omega (arith, c.if-t-column.true))
 
 pub overflow_mul-at : goal.overflow_mul-at
 overflow_mul-at c = omega (arith, row_inside _ _ c.args.t.row c.if-t-item.false)

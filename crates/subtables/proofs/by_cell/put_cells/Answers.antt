@@ -17,7 +17,7 @@ pub loop-k-init : goal.loop-k-init
 loop-k-init c = (search rules, laid_none _ _)
 
 pub low_of-requires-clause-column_lt_columns : goal.low_of-requires-clause-column_lt_columns
-low_of-requires-clause-column_lt_columns c = let f = fitting_at c.requires.fitting c.loop-k-test.true c.column_at-column.ensures in
+low_of-requires-clause-column_lt_columns c = let f = fitting_at c.requires.fitting (omega (arith, c.loop-k-test.true)) c.column_at-column.ensures in
     (f.0, search rules, f.1)
 
 pub put_entry-requires-clause-size_in_bounds : goal.put_entry-requires-clause-size_in_bounds
