@@ -1,9 +1,8 @@
 -- What a demand is said of: every accepted cut, and every accepted call with the first bytes of its output.
 -- `Says` is the demand: of a source, the caller's list and the bytes that were written.
-use Rattle.std.specs.Prelude.{ℕ, ◌≤◌, ◌≡◌, Bool, List, take}
+use Rattle.std.specs.Prelude.{ℕ, ◌≤◌, ◌≡◌, Bool, List, take, Ok}
 use Rattle.opentype.specs.Store.{regions_at}
 use Rattle.opentype.specs.Table.{store_at, store_of, hvar_maps, vvar_maps}
-use Rattle.rules.specs.declared.Answer.TheVariants.{Written}
 use Rattle.rules.specs.Numbers.{written}
 use Rattle.rules.specs.StoreCut.{cut_store}
 use Rattle.rules.specs.TableCut.{cut_table, cut_hvar, cut_vvar}
@@ -34,7 +33,7 @@ OfStoreCuts Says =
 unfoldable pub OfStoreCalls : (List ℕ → List ℕ → List ℕ → Type 0) → Type 0
 OfStoreCalls Says =
     (s pairs : List ℕ) (keep_empty : Bool) (work out work' out' : List ℕ) (n : ℕ) → Bytes s → HasRegions s
-    → Promise (cut_store s pairs keep_empty) work out (Written n) work' out'
+    → Promise (cut_store s pairs keep_empty) work out (Ok n) work' out'
     → Says s pairs (take n out')
 
 -- 3 maps or 4
@@ -53,11 +52,11 @@ OfTableCuts Needs Says =
 unfoldable pub OfHvarCalls : (List ℕ → Type 0) → (ℕ → List ℕ → List ℕ → List ℕ → Type 0) → Type 0
 OfHvarCalls Needs Says =
     (t es work out work' out' : List ℕ) (n : ℕ) → Bytes t → Needs t
-    → Promise (cut_hvar t es) work out (Written n) work' out'
+    → Promise (cut_hvar t es) work out (Ok n) work' out'
     → Says hvar_maps t es (take n out')
 
 unfoldable pub OfVvarCalls : (List ℕ → Type 0) → (ℕ → List ℕ → List ℕ → List ℕ → Type 0) → Type 0
 OfVvarCalls Needs Says =
     (t es work out work' out' : List ℕ) (n : ℕ) → Bytes t → Needs t
-    → Promise (cut_vvar t es) work out (Written n) work' out'
+    → Promise (cut_vvar t es) work out (Ok n) work' out'
     → Says vvar_maps t es (take n out')

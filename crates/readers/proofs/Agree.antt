@@ -15,10 +15,9 @@ use Rattle.opentype.specs.Subtable.{item_count, word_count, column_count, long, 
 use Rattle.laws.specs.Inside.{subtable_inside}
 use Rattle.laws.specs.Rows.{row-cell}
 use Rattle.rules.specs.declared.Refusal.TheVariants.{BadStore, AbsentSubtable, BadSubtable}
-use Rattle.rules.specs.declared.Delta.{Delta}
-use Rattle.rules.specs.declared.Entry.{Entry}
+use Rattle.std.specs.Prelude.{Ok, Err}
 use Rattle.rules.specs.Open.{bad_store, absent_subtable, bad_subtable}
-use Rattle.rules.specs.Readers.{opened_or, delta_of, no_row, found_row, row_of, entry_of, number_of_delta, value_of_delta}
+use Rattle.rules.specs.Readers.{Delta, Entry, opened_or, delta_of, no_row, found_row, row_of, entry_of, number_of_delta, value_of_delta}
 
 -- they refuse the same calls, by the same number
 pub same_number : (s : List ℕ) (o i c : ℕ) → number_of_delta (delta_of s o i c) ≡ (row_of s o i).number
@@ -26,7 +25,7 @@ unfolding delta_of row_of opened_or found_row
 same_number s o i c = one (bad_store s) (absent_subtable s o) (bad_subtable s (subtable_at s o))
   where
     one : (a b d : Bool)
-        → number_of_delta (pick a (Delta.Refused BadStore) (pick b (Delta.Refused AbsentSubtable) (pick d (Delta.Refused BadSubtable) (Delta.Value (delta s (subtable_at s o) i c)))))
+        → number_of_delta (pick a (Err BadStore) (pick b (Err AbsentSubtable) (pick d (Err BadSubtable) (Ok (delta s (subtable_at s o) i c)))))
         ≡ (pick a (no_row BadStore) (pick b (no_row AbsentSubtable) (pick d (no_row BadSubtable) (found_row s (subtable_at s o) i)))).number
     one true b d = refl
     one false true d = refl

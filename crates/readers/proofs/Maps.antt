@@ -12,7 +12,7 @@ use Rattle.cells.specs.Be.{be, Cell}
 use Rattle.opentype.specs.Map.{map_format, entry_format, inner_bits, entry_bytes, map_head, map_count, entry, outer_of, inner_of}
 use Rattle.laws.specs.Inside.{MapInside}
 use Rattle.laws.specs.Rows.{row_inside}
-use Rattle.readers.specs.declared.map.Map.{Map}
+use Rattle.readers.specs.declared.map.MapShape.{MapShape}
 use Rattle.readers.specs.Opened.{OpenedMap}
 
 -- what was read of a map that row 12 lets through makes an opened map
@@ -38,7 +38,7 @@ opened_map s at {format} {packed} {head} {count} i f p h n =
       inside = rw (e, k, z) i.inside;
     }
 
-module _ {s : List ℕ} {m : Map} (o : OpenedMap s m) (g : ℕ) where
+module _ {s : List ℕ} {m : MapShape} (o : OpenedMap s m) (g : ℕ) where
   pub entry_inside : {i : ℕ} → i ≡ min g (m.count - 1) → m.entries + i * m.size + m.size ≤ length s
   entry_inside {i} h = omega (arith, row_inside i m.count m.size (omega arith))
 

@@ -13,16 +13,16 @@ use Rattle.cells.specs.Sign.{signed_at}
 use Rattle.opentype.specs.Subtable.{item_count, word_field, word_count, column_count, length_of_row, row_length, rows_at, row_at}
 use Rattle.opentype.specs.Subtable.{long as is_long, cell_at, cell_size, cell, delta}
 use Rattle.opentype.specs.Store.{subtable_count, subtable_at}
-use Rattle.rules.specs.Open.{absent_subtable, bad_subtable}
+use Rattle.rules.specs.Open.{bad_store, absent_subtable, bad_subtable}
 use Rattle.rules.specs.declared.Refusal.TheVariants.{AbsentSubtable, BadSubtable}
 use Rattle.rules.specs.declared.Refusal.{Refusal}
 use Rattle.lists.specs.Pick.{pick}
-use Rattle.laws.specs.Inside.{subtable_inside}
+use Rattle.laws.specs.Inside.{store_inside, subtable_inside}
+use Rattle.laws.specs.Usable.{in_array}
 use Rattle.laws.specs.Rows.{row_inside, row_short, cell_inside}
-use Rattle.readers.specs.declared.subtable.Subtable.{Subtable}
-use Rattle.readers.specs.declared.subtable.Found.{Found}
-use Rattle.readers.specs.declared.subtable.Found.TheVariants.{Open, Refused}
-use Rattle.readers.specs.Opened.{Opened, Whole, OpeningAt, Usable, Unusable, Opening}
+use Rattle.readers.specs.declared.subtable.Shape.{Shape}
+use Rattle.readers.specs.Opened.{Opened}
+use Rattle.readers.specs.Opening.{Whole, Usable, Unusable}
 
 -- the fields of a subtable that 6 lets through
 module _ (s : List ℕ) (at : ℕ) (good : bad_subtable s at ≡ false) where
@@ -59,6 +59,10 @@ module _ (s : List ℕ) (at : ℕ) (good : bad_subtable s at ≡ false) where
           };
         }
 
+-- the offset of an outer that is in the array lies inside
+pub offset_inside : (s : List ℕ) (o : ℕ) → bad_store s ≡ false → absent_subtable s o ≡ false → 8 + 4 * o + 4 ≤ length s
+offset_inside s o b a = omega (arith, (store_inside s b).inside, in_array s o a)
+
 -- an outer whose offset is r, in a store of n subtables
 pub absent_past : (s : List ℕ) (o : ℕ) {n : ℕ} → n ≡ subtable_count s → n ≤ o → Unusable s o AbsentSubtable
 unfolding absent_subtable
@@ -69,14 +73,14 @@ pub absent_zero : (s : List ℕ) (o : ℕ) {n r : ℕ} → n ≡ subtable_count 
 unfolding absent_subtable
 absent_zero s o e h f z = record { is = rw (← e, lt-leb _ _ h, ← f, z); why = rw (← e, lt-leb _ _ h, ← f, z) }
 
-pub opening : (s : List ℕ) (o : ℕ) {n r : ℕ} (f : Found) → n ≡ subtable_count s → o < n → r ≡ subtable_at s o
-    → (r ≡ 0 → ⊥) → OpeningAt s r f → Opening s o f
-unfolding absent_subtable
-opening s o {n} {r} (Open t) e h f z w = record { there = rw (← e, lt-leb _ _ h, ← f, ne_eqb r 0 z); whole = rw (← f) w }
-opening s o {n} {r} (Refused b) e h f z w = record {
-  is = rw (← e, lt-leb _ _ h, ← f, ne_eqb r 0 z) w.0;
-  why = rw (← e, lt-leb _ _ h, ← f, ne_eqb r 0 z) w.1;
-}
+module _ (s : List ℕ) (o : ℕ) {n r : ℕ} (e : n ≡ subtable_count s) (h : o < n) (f : r ≡ subtable_at s o) (z : r ≡ 0 → ⊥) where
+  pub bad_there : bad_subtable s r ≡ true → Unusable s o BadSubtable
+  unfolding absent_subtable
+  bad_there b = record { is = rw (← e, lt-leb _ _ h, ← f, ne_eqb r 0 z); why = rw (← e, lt-leb _ _ h, ← f, ne_eqb r 0 z) b }
+
+  pub usable_there : {t : Shape} → Whole s r t → Usable s o t
+  unfolding absent_subtable
+  usable_there w = record { there = rw (← e, lt-leb _ _ h, ← f, ne_eqb r 0 z); whole = rw (← f) w }
 
 -- the opening's answer is that of the chain 5, 6: whatever a call makes of a refusal, and goes on to
 pub unusable_is : {A : Type 0} {s : List ℕ} {o : ℕ} {r : Refusal} → Unusable s o r → (refuse : Refusal → A) (next : A)
@@ -89,11 +93,11 @@ unusable_is {A} {s} {o} {r} u refuse next = one (absent_subtable s o) (bad_subta
     one false true e w = ap refuse e
     one false false e w = absurd (false≢true w)
 
-pub usable_is : {A : Type 0} {s : List ℕ} {o : ℕ} {t : Subtable} → Usable s o t → (absent bad next : A)
+pub usable_is : {A : Type 0} {s : List ℕ} {o : ℕ} {t : Shape} → Usable s o t → (absent bad next : A)
     → next ≡ pick (absent_subtable s o) absent (pick (bad_subtable s (subtable_at s o)) bad next)
 usable_is u absent bad next = rw (u.there, u.whole.good)
 
-module _ {s : List ℕ} {t : Subtable} (o : Opened s t) where
+module _ {s : List ℕ} {t : Shape} (o : Opened s t) where
   -- a cell of a row that is there ends inside the store
   pub cell_ends : (item column : ℕ) → item < t.items → column < t.columns
       → t.rows + item * t.row + cell_at t.long t.words column + cell_size t.long t.words column ≤ length s
@@ -118,5 +122,5 @@ module _ {s : List ℕ} {t : Subtable} (o : Opened s t) where
   delta_no_column item column h k = rw (← o.items, ← o.columns, lt-leb _ _ h, le-leb _ _ k)
 
 -- a row ends inside
-pub row_ends : {s : List ℕ} {t : Subtable} → Opened s t → (item : ℕ) → item < t.items → t.rows + item * t.row + t.row ≤ length s
+pub row_ends : {s : List ℕ} {t : Shape} → Opened s t → (item : ℕ) → item < t.items → t.rows + item * t.row + t.row ≤ length s
 row_ends {t = t} o item h = omega (arith, row_inside item t.items t.row h, o.inside)

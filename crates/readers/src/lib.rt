@@ -1,85 +1,46 @@
 // Reading stores, maps and tables: each object is opened with its refusal, and then read. Here are the three public readers.
 #![tactic(auto)]
 
-ghost use Rattle.std.specs.Prelude.{◌≡◌};
-ghost use Rattle.rules.specs.Numbers.{number_of};
-ghost use Rattle.rules.specs.Readers.{delta_of, row_of, entry_of};
+ghost use Rattle.std.specs.Prelude.{◌≡◌, ◌≤◌, MatchResult};
+ghost use Rattle.rules.specs.Open.{bad_header};
+ghost use Rattle.rules.specs.Readers.{delta_of, a_row, no_row, row_of, entry_of};
 
 pub mod map;
-pub mod open;
+pub mod store;
 pub mod subtable;
 
-use map::{bad_map, map_at, pair_of};
-use open::bad_store;
+use map::Map;
 use rules::{Delta, Entry, Refusal};
-use subtable::{Found, delta_of, open_subtable};
+use store::Store;
 
-pub fn number_of(r: Refusal) -> u32
-    ensures { result ≡ number_of r }
+// 11, of a table with so many maps
+pub fn bad_header(t: &[u8], maps: usize) -> bool
+    requires { maps ≤ 4 }
+    ensures { result ≡ bad_header maps t.now }
 {
-    match r {
-        Refusal::WorkArea => 1,
-        Refusal::BadList => 2,
-        Refusal::BadStore => 3,
-        Refusal::BadRegions => 4,
-        Refusal::AbsentSubtable => 5,
-        Refusal::BadSubtable => 6,
-        Refusal::NothingKept => 7,
-        Refusal::BadRegionIndex => 8,
-        Refusal::MiddleWidth => 9,
-        Refusal::ShortOutput => 10,
-        Refusal::BadHeader => 11,
-        Refusal::BadMap => 12,
-        Refusal::BadOuter => 13,
-        Refusal::WideEntry => 14,
-        Refusal::EmptyStore => 15,
+    if t.len() < 8 + 4 * maps {
+        return true;
     }
+    cells::u16_at(t, 0) != 1
 }
 
 pub fn read_delta(store: &[u8], outer: u32, inner: u32, column: u32) -> Delta
     ensures { result ≡ delta_of store.now outer inner column }
 {
-    if bad_store(store) {
-        return Delta::Refused(Refusal::BadStore);
-    }
-    match open_subtable(store, outer as usize) {
-        Found::Open(t) => Delta::Value(delta_of(store, t, inner as usize, column as usize)),
-        Found::Refused(r) => Delta::Refused(r),
-    }
+    let subtable = Store::open(store)?.subtable(outer as usize)?;
+    Ok(subtable.delta(inner as usize, column as usize))
 }
 
-pub fn read_row<'a>(store: &'a [u8], outer: u32, inner: u32, number: &mut u32) -> &'a [u8]
-    ensures number_after { number.new ≡ (row_of store.now outer inner).number }
-    ensures result_value { result.now ≡ (row_of store.now outer inner).part }
+pub fn read_row<'a>(store: &'a [u8], outer: u32, inner: u32) -> Result<&'a [u8], Refusal>
+    ensures { MatchResult result (λ part. row_of store.now outer inner ≡ a_row part.now) (λ r. row_of store.now outer inner ≡ no_row r) }
 {
-    if bad_store(store) {
-        *number = 3;
-        return &store[..0];
-    }
-    match open_subtable(store, outer as usize) {
-        Found::Open(t) => {
-            *number = 0;
-            let item = inner as usize;
-            if t.items <= item {
-                return &store[..0];
-            }
-            let at = t.rows + item * t.row;
-            let end = at + t.row;
-            &store[at..end]
-        }
-        Found::Refused(r) => {
-            *number = number_of(r);
-            &store[..0]
-        }
-    }
+    let subtable = Store::open(store)?.subtable(outer as usize)?;
+    Ok(subtable.row(inner as usize))
 }
 
 pub fn read_entry(map: &[u8], glyph: u32) -> Entry
     ensures { result ≡ entry_of map.now glyph }
 {
-    if bad_map(map, 0) {
-        return Entry::Refused(Refusal::BadMap);
-    }
-    let pair = pair_of(map, map_at(map, 0), glyph as usize);
-    Entry::Pair(pair.outer, pair.inner)
+    let map = Map::open(map, 0)?;
+    Ok(map.pair(glyph as usize))
 }

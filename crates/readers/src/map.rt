@@ -1,15 +1,17 @@
 // A map: opened, and its pairs read.
-ghost use Rattle.std.specs.Prelude.{◌≡◌, false, ◌+◌, ◌-◌, ◌≤◌, ◌<◌, ◌^◌, min, length, eqb};
+ghost use Rattle.std.specs.Prelude.{◌≡◌, true, false, ◌+◌, ◌-◌, ◌≤◌, ◌<◌, ◌^◌, min, length, eqb, MatchResult};
 ghost use Rattle.lists.specs.Pick.{pick};
 ghost use Rattle.cells.specs.Be.{be};
 ghost use Rattle.opentype.specs.Map.{outer_of, inner_of};
 ghost use Rattle.rules.specs.Open.{bad_map};
 ghost use Rattle.readers.specs.Opened.{OpenedMap};
 
+use rules::{Pair, Refusal};
+
 // A map's fields, each read once: its place, the place of the entries and their count, an entry's bytes, and the bits
 // of its inner number.
 #[derive(Clone, Copy)]
-pub struct Map {
+pub struct MapShape {
     pub at: usize,
     pub entries: usize,
     pub count: usize,
@@ -17,11 +19,12 @@ pub struct Map {
     pub bits: usize,
 }
 
-// Where a glyph's row is.
+// A map that row 12 lets through, in the bytes of what holds it.
 #[derive(Clone, Copy)]
-pub struct Pair {
-    pub outer: u32,
-    pub inner: u32,
+pub struct Map<'a> {
+    pub bytes: &'a [u8],
+    pub shape: MapShape,
+    pub ghost opened: { OpenedMap bytes.now shape },
 }
 
 // The bytes before the entries.
@@ -71,41 +74,57 @@ pub fn bad_map(s: &[u8], at: usize) -> bool
     s.len() < entries + count * size
 }
 
-// A map that row 12 lets through.
-pub fn map_at(s: &[u8], at: usize) -> Map
-    requires { bad_map s.now at ≡ false }
-    ensures opened_map { OpenedMap s.now result }
-    ensures at_value { result.at ≡ at }
-{
-    let format = cells::u8_at(s, at);
-    let packed = cells::u8_at(s, at + 1) as usize;
-    Map {
-        at: at,
-        entries: at + head_length(format),
-        count: entry_count(s, at, format) as usize,
-        size: packed / 16 % 4 + 1,
-        bits: packed % 16 + 1,
-    }
-}
-
 // A glyph at or past the count reads the last entry.
 fn entry_index(count: usize, glyph: usize) -> usize
     requires { 1 ≤ count }
     ensures { result ≡ min glyph (count - 1) }
 {
-    if glyph < count { glyph } else { count - 1 }
+    glyph.min(count - 1)
 }
 
-pub fn pair_of(s: &[u8], m: Map, glyph: usize) -> Pair
-    requires { OpenedMap s.now m }
-    ensures outer_value { result.outer ≡ outer_of s.now m.at glyph }
-    ensures inner_value { result.inner ≡ inner_of s.now m.at glyph }
-{
-    let bits = m.bits;
-    let at = m.entries + entry_index(m.count, glyph) * m.size;
-    let entry = cells::entry_at(s, at, m.size);
-    Pair {
-        outer: entry >> bits,
-        inner: entry % (1u32 << bits),
+impl<'a> Map<'a> {
+    ghost use Rattle.rules.specs.declared.Refusal.{Refusal};
+
+    // The map at a place where 12 lets it through.
+    pub fn opened(bytes: &'a [u8], at: usize) -> Self
+        requires { bad_map bytes.now at ≡ false }
+        ensures { (result.bytes.now ≡ bytes.now) × (result.shape.at ≡ at) }
+    {
+        let format = cells::u8_at(bytes, at);
+        let packed = cells::u8_at(bytes, at + 1) as usize;
+        let shape = MapShape {
+            at,
+            entries: at + head_length(format),
+            count: entry_count(bytes, at, format) as usize,
+            size: packed / 16 % 4 + 1,
+            bits: packed % 16 + 1,
+        };
+        Map { bytes, shape }
+    }
+
+    // 12
+    pub fn open(bytes: &'a [u8], at: usize) -> Result<Self, Refusal>
+        requires { at < 2 ^ 32 }
+        ensures { MatchResult result
+            (λ m. (m.bytes.now ≡ bytes.now) × (m.shape.at ≡ at) × (bad_map bytes.now at ≡ false))
+            (λ r. (r ≡ Refusal.BadMap) × (bad_map bytes.now at ≡ true)) }
+    {
+        if bad_map(bytes, at) {
+            return Err(Refusal::BadMap);
+        }
+        Ok(Map::opened(bytes, at))
+    }
+
+    pub fn pair(&self, glyph: usize) -> Pair
+        ensures outer_value { result.outer ≡ outer_of self.now.bytes.now self.now.shape.at glyph }
+        ensures inner_value { result.inner ≡ inner_of self.now.bytes.now self.now.shape.at glyph }
+    {
+        let shape = self.shape;
+        let at = shape.entries + entry_index(shape.count, glyph) * shape.size;
+        let entry = cells::entry_at(self.bytes, at, shape.size);
+        Pair {
+            outer: entry >> shape.bits,
+            inner: entry % (1u32 << shape.bits),
+        }
     }
 }

@@ -1,14 +1,17 @@
 // A subtable: opened, and its cells read.
-ghost use Rattle.std.specs.Prelude.{◌≡◌, false, ◌≤◌, ◌<◌, ◌^◌};
-ghost use Rattle.rules.specs.Open.{bad_store, bad_subtable};
-ghost use Rattle.opentype.specs.Subtable.{region_index, length_of_row, cell_at, cell_size, delta};
-ghost use Rattle.readers.specs.Opened.{Opened, Whole, Opening, OpeningAt};
+ghost use Rattle.std.specs.Prelude.{◌≡◌, false, ◌≤◌, ◌<◌, ◌^◌, [], leb};
+ghost use Rattle.lists.specs.Pick.{pick};
+ghost use Rattle.rules.specs.Open.{bad_store, absent_subtable, bad_subtable};
+ghost use Rattle.opentype.specs.Store.{subtable_at};
+ghost use Rattle.opentype.specs.Subtable.{region_index, length_of_row, cell_at, cell_size, row, delta};
+ghost use Rattle.readers.specs.Opened.{Opened};
 
+use crate::store::Store;
 use rules::Refusal;
 
 // A subtable's fields, each read once: its place in the store, the counts, a row's length, and the place of the rows.
 #[derive(Clone, Copy)]
-pub struct Subtable {
+pub struct Shape {
     pub at: usize,
     pub items: usize,
     pub words: usize,
@@ -18,10 +21,12 @@ pub struct Subtable {
     pub rows: usize,
 }
 
-#[derive(Drop)]
-pub enum Found {
-    Open(Subtable),
-    Refused(Refusal),
+// A subtable that row 6 lets through, in the bytes of its store.
+#[derive(Clone, Copy)]
+pub struct Subtable<'a> {
+    pub bytes: &'a [u8],
+    pub shape: Shape,
+    pub ghost opened: { Opened bytes.now shape },
 }
 
 fn row_length(long: bool, words: usize, columns: usize) -> usize
@@ -35,25 +40,27 @@ fn row_length(long: bool, words: usize, columns: usize) -> usize
     }
 }
 
-// Where a column stands in a row.
-pub fn cell_at(long: bool, words: usize, column: usize) -> usize
-    requires { column ≤ 4096 }
-    ensures { result ≡ cell_at long words column }
-{
-    if column < words {
-        if long { column * 4 } else { column * 2 }
-    } else {
-        row_length(long, words, column)
+impl Shape {
+    // Where a column stands in a row.
+    pub fn cell_at(self, column: usize) -> usize
+        requires { column ≤ 4096 }
+        ensures { result ≡ cell_at self.long self.words column }
+    {
+        if column < self.words {
+            if self.long { column * 4 } else { column * 2 }
+        } else {
+            row_length(self.long, self.words, column)
+        }
     }
-}
 
-pub fn cell_size(long: bool, words: usize, column: usize) -> usize
-    ensures { result ≡ cell_size long words column }
-{
-    if column < words {
-        if long { 4 } else { 2 }
-    } else {
-        if long { 2 } else { 1 }
+    pub fn cell_size(self, column: usize) -> usize
+        ensures { result ≡ cell_size self.long self.words column }
+    {
+        if column < self.words {
+            if self.long { 4 } else { 2 }
+        } else {
+            if self.long { 2 } else { 1 }
+        }
     }
 }
 
@@ -79,73 +86,94 @@ fn bad_subtable(s: &[u8], at: usize) -> bool
     s.len() < at + 6 + 2 * columns + items * row
 }
 
-// The fields of a subtable that 6 lets through.
-pub fn subtable_of(s: &[u8], at: usize) -> Subtable
-    requires { bad_subtable s.now at ≡ false }
-    ensures { Whole s.now at result }
-{
-    let field = cells::u16_at(s, at + 2) as usize;
-    let words = field % 32768;
-    let columns = cells::u16_at(s, at + 4) as usize;
-    let long = 32768 <= field;
-    let items = cells::u16_at(s, at) as usize;
-    let row = row_length(long, words, columns);
-    let rows = at + 6 + 2 * columns;
-    Subtable {
-        at: at,
-        items: items,
-        words: words,
-        columns: columns,
-        long: long,
-        row: row,
-        rows: rows,
+impl<'a> Store<'a> {
+    ghost use Rattle.readers.specs.Opening.{Whole, Usable, Opening};
+
+    // The subtable at a place where 6 lets it through.
+    fn subtable_at(&self, at: usize) -> Subtable<'a>
+        requires { bad_subtable self.now.bytes.now at ≡ false }
+        ensures { (result.bytes.now ≡ self.now.bytes.now) × Whole self.now.bytes.now at result.shape }
+    {
+        let bytes = self.bytes;
+        let field = cells::u16_at(bytes, at + 2) as usize;
+        let words = field % 32768;
+        let columns = cells::u16_at(bytes, at + 4) as usize;
+        let long = 32768 <= field;
+        let items = cells::u16_at(bytes, at) as usize;
+        let row = row_length(long, words, columns);
+        let rows = at + 6 + 2 * columns;
+        let shape = Shape {
+            at,
+            items,
+            words,
+            columns,
+            long,
+            row,
+            rows,
+        };
+        Subtable { bytes, shape }
+    }
+
+    // 5, then 6
+    pub fn subtable(&self, outer: usize) -> Result<Subtable<'a>, Refusal>
+        ensures { Opening self.now.bytes.now outer result }
+    {
+        let bytes = self.bytes;
+        if self.count() <= outer {
+            return Err(Refusal::AbsentSubtable);
+        }
+        let at = cells::u32_at(bytes, 8 + 4 * outer) as usize;
+        if at == 0 {
+            return Err(Refusal::AbsentSubtable);
+        }
+        if bad_subtable(bytes, at) {
+            return Err(Refusal::BadSubtable);
+        }
+        Ok(self.subtable_at(at))
+    }
+
+    // The subtable of an outer that 5 and 6 let through before.
+    pub fn subtable_again(&self, outer: usize) -> Subtable<'a>
+        requires there { absent_subtable self.now.bytes.now outer ≡ false }
+        requires good { bad_subtable self.now.bytes.now (subtable_at self.now.bytes.now outer) ≡ false }
+        ensures { (result.bytes.now ≡ self.now.bytes.now) × Whole self.now.bytes.now (subtable_at self.now.bytes.now outer) result.shape }
+    {
+        self.subtable_at(cells::u32_at(self.bytes, 8 + 4 * outer) as usize)
     }
 }
 
-fn subtable_at(s: &[u8], at: usize) -> Found
-    requires { at < 2 ^ 32 }
-    ensures { OpeningAt s.now at result }
-{
-    if bad_subtable(s, at) {
-        return Found::Refused(Refusal::BadSubtable);
+impl<'a> Subtable<'a> {
+    pub fn region_index(&self, column: usize) -> u32
+        requires { column < self.now.shape.columns }
+        ensures value { result ≡ region_index self.now.bytes.now self.now.shape.at column }
+        ensures upper_bound { result < 65536 }
+    {
+        cells::u16_at(self.bytes, self.shape.at + 6 + 2 * column)
     }
-    Found::Open(subtable_of(s, at))
-}
 
-// 5, then 6, in a store that row 3 lets through
-pub fn open_subtable(s: &[u8], outer: usize) -> Found
-    requires { bad_store s.now ≡ false }
-    ensures { Opening s.now outer result }
-{
-    if cells::u16_at(s, 6) as usize <= outer {
-        return Found::Refused(Refusal::AbsentSubtable);
+    // The row of an item; an absent one has none.
+    pub fn row(&self, item: usize) -> &'a [u8]
+        ensures { result.now ≡ pick (leb self.now.shape.items item) [] (row self.now.bytes.now self.now.shape.at item) }
+    {
+        if self.shape.items <= item {
+            return &self.bytes[..0];
+        }
+        let at = self.shape.rows + item * self.shape.row;
+        let end = at + self.shape.row;
+        &self.bytes[at..end]
     }
-    let at = cells::u32_at(s, 8 + 4 * outer) as usize;
-    if at == 0 {
-        return Found::Refused(Refusal::AbsentSubtable);
-    }
-    subtable_at(s, at)
-}
 
-pub fn region_index(s: &[u8], t: Subtable, column: usize) -> u32
-    requires opened { Opened s.now t }
-    requires column_lt_columns { column < t.columns }
-    ensures value { result ≡ region_index s.now t.at column }
-    ensures upper_bound { result < 65536 }
-{
-    cells::u16_at(s, t.at + 6 + 2 * column)
-}
-
-pub fn delta_of(s: &[u8], t: Subtable, item: usize, column: usize) -> i32
-    requires { Opened s.now t }
-    ensures { result ≡ delta s.now t.at item column }
-{
-    if t.items <= item {
-        return 0;
+    pub fn delta(&self, item: usize, column: usize) -> i32
+        ensures { result ≡ delta self.now.bytes.now self.now.shape.at item column }
+    {
+        let shape = self.shape;
+        if shape.items <= item {
+            return 0;
+        }
+        if shape.columns <= column {
+            return 0;
+        }
+        let at = shape.rows + item * shape.row + shape.cell_at(column);
+        cells::cell(self.bytes, at, shape.cell_size(column))
     }
-    if t.columns <= column {
-        return 0;
-    }
-    let at = t.rows + item * t.row + cell_at(t.long, t.words, column);
-    cells::cell(s, at, cell_size(t.long, t.words, column))
 }

@@ -1,15 +1,16 @@
-use mathlib.Core.Path.{sym, ◌∙◌}
+use Rattle.std.proofs.Common.{ap, sym}
+use Rattle.std.proofs.lemmas.Result.{err_from_is_err_and}
 use Rattle.rules.specs.Readers.{entry_of}
-use borrow.Author.Rules.{rules}
 use Rattle.readers.proofs.read_entry.Goals as goal
 
-pub returns-then-bad_map : goal.returns-then-bad_map
+pub returns-in_err-map : goal.returns-in_err-map
 unfolding entry_of
-returns-then-bad_map c = rw (← c.bad_map.ensures, c.if-bad_map.true)
-
-pub map_at-requires : goal.map_at-requires
-map_at-requires c = sym c.bad_map.ensures ∙ c.if-bad_map.false
+returns-in_err-map c =
+    let p = err_from_is_err_and c.from_residual.result c.from_residual.ensures.1 in
+    rw (p.1, p.2, c.in_err-map.ensures.0, c.in_err-map.ensures.1)
 
 pub returns : goal.returns
 unfolding entry_of
-returns c = rw (← c.bad_map.ensures, c.if-bad_map.false, c.pair_of-pair.ensures.outer_value, c.pair_of-pair.ensures.inner_value, c.map_at.ensures.at_value)
+returns c =
+    let found = c.in_ok-map.ensures in
+    rw (found.2, ← found.0, ← found.1, ← c.pair.ensures.outer_value, ← c.pair.ensures.inner_value)

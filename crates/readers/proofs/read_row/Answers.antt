@@ -1,27 +1,22 @@
-use Rattle.std.proofs.Common.{sym, ◌∙◌}
-use native.Mathlib.Omega.{arith}
-use Rattle.rules.specs.Readers.{row_of}
-use Rattle.readers.proofs.Answers.{usable, unusable, store_refused, subtable_refused, row_found, row_absent, parts}
+use Rattle.std.proofs.Common.{sym, ap, ◌∙◌}
+use Rattle.std.proofs.lemmas.Result.{err_from_is_err_and}
+use Rattle.rules.specs.Readers.{a_row, row_of}
+use Rattle.readers.proofs.Answers.{store_refused, subtable_refused, row_read}
 use Rattle.readers.proofs.read_row.Goals as goal
 
-pub returns-then-bad_store : goal.returns-then-bad_store
+pub returns-in_err-open : goal.returns-in_err-open
 unfolding row_of
-returns-then-bad_store c =
-    let r = parts (store_refused _ _ _ _ (sym c.bad_store.ensures ∙ c.if-bad_store.true)) in
-    record { number_after = r.0; result_value = r.1 }
+returns-in_err-open c =
+    let p = err_from_is_err_and c.from_residual.result c.from_residual.ensures.1 in
+    rw (p.1, p.2, c.in_err-open.ensures.0) (sym (store_refused _ _ _ _ c.in_err-open.ensures.1))
 
-pub returns-then-t-item : goal.returns-then-t-item
-returns-then-t-item c =
-    let r = parts (sym (row_absent _ _ _ (sym c.bad_store.ensures ∙ c.if-bad_store.false) (usable c.open_subtable.ensures c.in-Open.is) (omega (arith, c.if-t-item.true)))) in
-    record { number_after = r.0; result_value = r.1 }
-
-pub returns-else-t-item : goal.returns-else-t-item
-returns-else-t-item c =
-    let r = parts (sym (row_found _ _ _ (sym c.bad_store.ensures ∙ c.if-bad_store.false) (usable c.open_subtable.ensures c.in-Open.is) c.if-t-item.false)) in
-    record { number_after = r.0; result_value = r.1 }
-
-pub returns-in-Refused : goal.returns-in-Refused
+pub returns-in_err-subtable : goal.returns-in_err-subtable
 unfolding row_of
-returns-in-Refused c =
-    let r = parts (subtable_refused _ _ _ _ (sym c.bad_store.ensures ∙ c.if-bad_store.false) (unusable c.open_subtable.ensures c.in-Refused.is)) in
-    record { number_after = c.number_of.ensures ∙ r.0; result_value = r.1 }
+returns-in_err-subtable c =
+    let p = err_from_is_err_and c.from_residual-in_err-subtable.result c.from_residual-in_err-subtable.ensures.1 in
+    rw (p.1, p.2, ← c.in_ok-open.ensures) (sym (subtable_refused _ _ _ _ c.in_ok-open.field-0.sound c.in_err-subtable.ensures))
+
+pub returns : goal.returns
+returns c =
+    let found = c.in_ok-subtable.ensures in
+    rw (← c.in_ok-open.ensures) (row_read _ _ _ c.in_ok-open.field-0.sound found.1 (rw (← found.0) c.row.ensures))

@@ -1,6 +1,6 @@
 use Rattle.opentype.specs.Subtable.{region_index}
 use borrow.Author.Rules.{rules}
-use Rattle.readers.proofs.subtable.region_index.Goals as goal
+use Rattle.readers.proofs.subtable.Subtable.region_index.Goals as goal
 
 pub returns-clause-value : goal.returns-clause-value
 unfolding region_index

@@ -1,7 +1,8 @@
+use mathlib.Core.Path.{refl}
 use native.Mathlib.Omega.{arith}
 use Rattle.readers.proofs.Subtables.{head_inside, columns_few, whole}
 use borrow.Author.Rules.{rules}
-use Rattle.readers.proofs.subtable.subtable_of.Goals as goal
+use Rattle.readers.proofs.store.Store.subtable_at.Goals as goal
 
 pub overflow_add-at : goal.overflow_add-at
 overflow_add-at c = omega (arith, head_inside _ _ c.requires)
@@ -27,5 +28,9 @@ overflow_add-rows c = omega (arith, head_inside _ _ c.requires)
 pub overflow_add-rows-2 : goal.overflow_add-rows-2
 overflow_add-rows-2 c = omega (arith, head_inside _ _ c.requires, c.u16_at-columns.ensures.small)
 
+pub invariant_of-result : goal.invariant_of-result
+invariant_of-result c =
+    record { opened = (whole _ _ c.requires c.u16_at-field.ensures c.u16_at-columns.ensures c.u16_at-items.ensures c.row_length-row.ensures).opened }
+
 pub returns : goal.returns
-returns c = whole _ _ c.requires c.u16_at-field.ensures c.u16_at-columns.ensures c.u16_at-items.ensures c.row_length-row.ensures
+returns c = (refl, whole _ _ c.requires c.u16_at-field.ensures c.u16_at-columns.ensures c.u16_at-items.ensures c.row_length-row.ensures)

@@ -6,7 +6,7 @@ use Rattle.rules.specs.Open.{bad_regions}
 use Rattle.laws.specs.Inside.{store_inside}
 use Rattle.readers.proofs.Fits.{records_fit}
 use borrow.Author.Rules.{rules}
-use Rattle.readers.proofs.open.bad_regions.Goals as goal
+use Rattle.readers.proofs.store.bad_regions.Goals as goal
 
 pub u32_at-at-requires : goal.u32_at-at-requires
 u32_at-at-requires c = omega (arith, store_inside _ c.requires)

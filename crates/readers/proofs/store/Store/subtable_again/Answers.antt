@@ -1,0 +1,21 @@
+use Rattle.std.proofs.Common.{arith}
+use Rattle.opentype.specs.Store.{subtable_at}
+use Rattle.readers.proofs.Subtables.{offset_inside}
+use Rattle.readers.proofs.store.Store.subtable_again.Goals as goal
+
+pub overflow_mul-outer : goal.overflow_mul-outer
+overflow_mul-outer c = omega (arith, offset_inside _ _ c.args.self.now.sound c.requires.there)
+
+pub overflow_add-outer : goal.overflow_add-outer
+overflow_add-outer c = omega (arith, offset_inside _ _ c.args.self.now.sound c.requires.there)
+
+pub u32_at-requires : goal.u32_at-requires
+u32_at-requires c = omega (arith, offset_inside _ _ c.args.self.now.sound c.requires.there)
+
+pub subtable_at-requires : goal.subtable_at-requires
+unfolding subtable_at
+subtable_at-requires c = rw c.u32_at.ensures.is c.requires.good
+
+pub returns : goal.returns
+unfolding subtable_at
+returns c = rw (← c.u32_at.ensures.is) c.subtable_at.ensures
