@@ -10,7 +10,7 @@ ghost use Rattle.columns.specs.Tally.{number_of_size, Decides};
 use readers::subtable::Subtable;
 
 // How large a delta is, or the largest of a column: 0; in -128..127; in -32768..32767; in -65536..65535; outside.
-#[derive(Clone, Copy)]
+#[derive(Clone, Copy, PartialEq, Eq, PartialOrd, Ord)]
 pub enum Size {
     Zero,
     Byte,
@@ -44,29 +44,14 @@ pub fn size_of(delta: i32) -> Size
 pub fn number(size: Size) -> u32
     ensures { result ≡ number_of_size size }
 {
-    match size {
-        Size::Zero => 0,
-        Size::Byte => 1,
-        Size::Short => 2,
-        Size::Middle => 3,
-        Size::Far => 4,
-    }
-}
-
-fn larger(a: Size, b: Size) -> Size
-    ensures { number_of_size result ≡ max (number_of_size a) (number_of_size b) }
-{
-    if number(a) < number(b) { b } else { a }
+    size as u32
 }
 
 impl Column {
     pub fn take(mut self, delta: i32) -> Column
         ensures { number_of_size result.size ≡ max (number_of_size self.size) (size delta) }
     {
-        let old = self.size;
-        self = Column {
-            size: larger(old, size_of(delta)),
-        };
+        self.size = self.size.max(size_of(delta));
         self
     }
 }
@@ -76,11 +61,7 @@ impl Column {
 fn enough(long: bool, cell: usize) -> usize
     ensures { result ≡ pick long (pick (eqb cell 2) 1 cell) cell }
 {
-    if long {
-        if cell == 2 { 1 } else { cell }
-    } else {
-        cell
-    }
+    if long && cell == 2 { 1 } else { cell }
 }
 
 // The kept deltas of a column, tallied one after the other until the column is decided.
@@ -91,15 +72,12 @@ pub fn column_size(s: &[u8], t: Subtable, pairs: &[u32], column: usize, long: bo
     let cell = readers::subtable::cell_size(t.long, t.words, column);
     let end = enough(long, cell);
     let mut tally = Column { size: Size::Zero };
-    let mut k = 0;
-    while k < pairs.len() {
-        let item = (pairs[k] % 65536) as usize;
+    for pair in pairs {
+        let item = (*pair % 65536) as usize;
         tally = tally.take(readers::subtable::delta_of(s, t, item, column));
-        let size = tally.size;
-        if number(size) as usize >= end {
-            return size;
+        if number(tally.size) as usize >= end {
+            break;
         }
-        k += 1;
     }
     tally.size
 }

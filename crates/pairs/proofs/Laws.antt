@@ -1,18 +1,25 @@
 -- Laws of the set of inners that the search for a pair that stands twice keeps, of pairs that rise, and of the runs of one outer.
 use Prim.Native.Nat.{ℕ, zero, suc, ◌+◌, ◌-◌, ◌*◌, ◌<◌, ◌≤◌}
 use mathlib.Core.Path.{◌≡◌, refl, sym, ap, ◌∙◌}
-use mathlib.Core.Bool.{Bool, true, false}
+use mathlib.Core.Bool.{Bool, true, false, not, false≢true}
 use mathlib.Core.List.{List, [], ◌∷◌, ◌++◌, map}
 use native.Mathlib.Omega.{arith}
 use native.Mathlib.Nat.{not-suc-le-zero}
 use native.Mathlib.Numerals.{add-one}
 use native.Mathlib.Decide.{ℕ_discrete, dec_lt}
 use lib.ListN.{length, get_or, take, drop, replicate, take-append-drop, length-drop, drop_of_length-le}
-use lib.Seq.{take-suc, drop-cons, drop-drop, get_or-take, get_or-drop, ext_get_or, length-take-le}
-use lib.Dec.{eqb}
-use borrow.Author.Tests.{eq-eqb, ne_eqb, le-ltb}
+use lib.Seq.{take-suc, drop-cons, drop-drop, get_or-take, get_or-drop, ext_get_or, length-take-le, take_all}
+use lib.Dec.{ltb, eqb}
+use borrow.Author.Tests.{eq-eqb, ne_eqb, lt-ltb, le-ltb, ltb-true, tests}
+use Rattle.std.specs.List.{IsAllAdjacentAnswer}
+use Rattle.std.specs.Ordering.{is_le, is_some_and, nat_cmp}
+use Rattle.std.specs.declared.option.Option.TheVariants.{Some}
+use Rattle.std.specs.Simd.{first_chunks}
+use Rattle.std.specs.Prelude.{nat_lt}
+use Rattle.std.proofs.lemmas.Map.Keys.{le_from_is_le}
 use Rattle.lists.specs.Pick.{pick}
 use Rattle.lists.specs.Search.{any, member}
+use Rattle.lists.proofs.Choices.{either_right}
 use Rattle.lists.proofs.Places.{member-append}
 use Rattle.lists.proofs.Ascending.{Rises}
 use Rattle.bits.specs.Bits.{has, insert}
@@ -89,18 +96,40 @@ inners_more {set} ps i h n s =
         over true = refl
         over false = refl
 
--- ---- pairs that rise
+-- ---- one pair and the next
 
-pub rises_start : (ps : List ℕ) → Rises (suc (get_or ps 0 0)) (drop 1 ps) → Rises 0 ps
-rises_start [] r = tt
-rises_start (p ∷ ps) r = (omega arith, r)
+in_order : (x y : ℕ) → false ≡ is_le (nat_cmp x y) → y < x
+in_order x y e = grind (arith, tests)
 
-pub rises_back : (ps : List ℕ) (i : ℕ) → i < length ps → get_or ps (i - 1) 0 < get_or ps i 0
-    → Rises (suc (get_or ps i 0)) (drop (i + 1) ps) → Rises (suc (get_or ps (i - 1) 0)) (drop i ps)
-rises_back ps i h l r = rw (drop-cons ps i 0 h) (l, rw add-one at r)
+climbs_by_next : (ps : List ℕ) → ((k : ℕ) → suc k < length ps → outer (get_or ps k 0) ≤ outer (get_or ps (suc k) 0)) → outers_fall ps ≡ false
+unfolding outers_fall
+climbs_by_next [] h = refl
+climbs_by_next (p ∷ []) h = refl
+climbs_by_next (p ∷ q ∷ ps) h = rw (le-ltb (outer q) (outer p) (h 0 (omega arith))) (climbs_by_next (q ∷ ps) (λ k l. h (suc k) (omega arith)))
 
-pub rises_end : (b : ℕ) (ps : List ℕ) (i : ℕ) → length ps ≤ i → Rises b (drop i ps)
-rises_end b ps i h = rw (drop_of_length-le ps {i = i} h) tt
+falls_at : (ps : List ℕ) (k : ℕ) → suc k < length ps → outer (get_or ps (suc k) 0) < outer (get_or ps k 0) → outers_fall ps ≡ true
+unfolding outers_fall
+falls_at [] k h l = absurd (omega arith)
+falls_at (p ∷ []) k h l = absurd (omega arith)
+falls_at (p ∷ q ∷ ps) zero h l = rw (lt-ltb (outer q) (outer p) l)
+falls_at (p ∷ q ∷ ps) (suc k) h l = either_right (ltb (outer q) (outer p)) _ (falls_at (q ∷ ps) k (omega arith) l)
+
+-- from what `is_sorted_by_key` ensures
+pub falls-sorted : (ps : List ℕ) (r : Bool) → IsAllAdjacentAnswer (λ x y b. b ≡ is_some_and is_le (Some (nat_cmp (outer x) (outer y)))) ps r → not r ≡ outers_fall ps
+falls-sorted ps true h = sym (climbs_by_next ps (λ k l. let g = le_from_is_le (outer (get_or ps k 0)) (outer (get_or ps (k + 1) 0)) (sym (h k 0 (omega arith))) in rw add-one at g))
+falls-sorted ps false h =
+    let l = in_order (outer (get_or ps h.0 0)) (outer (get_or ps (h.0 + 1) 0)) (h.2 0) in
+    sym (falls_at ps h.0 (omega (arith, h.1)) (rw add-one at l))
+
+rises_by_next : (b : ℕ) (ps : List ℕ) → b ≤ get_or ps 0 b → ((k : ℕ) → suc k < length ps → get_or ps k 0 < get_or ps (suc k) 0) → Rises b ps
+rises_by_next b [] g h = tt
+rises_by_next b (p ∷ []) g h = (g, tt)
+rises_by_next b (p ∷ q ∷ ps) g h = (g, rises_by_next (suc p) (q ∷ ps) (h 0 (omega arith)) (λ k l. h (suc k) (omega arith)))
+
+-- from what `is_sorted_by` ensures
+pub rises_sorted : (ps : List ℕ) (r : Bool) → IsAllAdjacentAnswer (λ x y b. b ≡ nat_lt x y) ps r → r ≡ true → Rises 0 ps
+rises_sorted ps true h e = rises_by_next 0 ps (omega arith) (λ k l. let g = ltb-true (get_or ps k 0) (get_or ps (k + 1) 0) (sym (h k 0 (omega arith))) in rw add-one at g)
+rises_sorted ps false h e = absurd (false≢true e)
 
 -- their outers don't fall, and none stands twice
 pub rises_kept : (ps : List ℕ) → length ps ≤ most_pairs → Rises 0 ps → bad_pairs ps ≡ false
@@ -123,18 +152,35 @@ one_more {ps} {from} {end} r e =
     }
 
 -- a later pair with the outer: as outers don't fall, all before it have it
-pub one_leap : {ps : List ℕ} {from end : ℕ} (n to : ℕ) → outers_fall (take n ps) ≡ false → n ≤ length ps → OneOuter ps from end → end ≤ to → to < n
+pub one_leap : {ps : List ℕ} {from end : ℕ} (to : ℕ) → outers_fall ps ≡ false → OneOuter ps from end → end ≤ to → to < length ps
     → outer (get_or ps to 0) ≡ outer (get_or ps from 0) → OneOuter ps from (to + 1)
-one_leap {ps} {from} {end} n to f h r a b e =
+one_leap {ps} {from} to f r a b e =
     record {
       after = omega (arith, r.after);
-      alike = λ k l g. let p = climb from k l (omega arith) in let q = climb k to (omega arith) b in omega (arith, p, q, e);
+      alike = λ k l g. let p = outers_climb ps f from k l (omega arith) in let q = outers_climb ps f k to (omega arith) b in omega (arith, p, q, e);
     }
-  where
-    climb : (i k : ℕ) → i ≤ k → k < n → outer (get_or ps i 0) ≤ outer (get_or ps k 0)
-    climb i k l g =
-        let w = length-take-le n ps h in
-        rw (get_or-take n ps i 0 (omega arith), get_or-take n ps k 0 g) at (outers_climb (take n ps) f i k l (omega arith))
+
+-- the last pair of an eight, of those from a place on
+eight_last : (c : ℕ) (ps : List ℕ) (k : ℕ) → k < c → get_or (get_or (first_chunks 8 c ps) k []) 7 0 ≡ get_or ps (8 * k + 7) 0
+eight_last zero ps k h = absurd (not-suc-le-zero h)
+eight_last (suc c) ps zero h = get_or-take 8 ps 7 0 (omega arith)
+eight_last (suc c) ps (suc k) h =
+    let e : 8 + (8 * k + 7) ≡ 8 * suc k + 7 = omega arith in
+    eight_last c (drop 8 ps) k (omega arith) ∙ rw (get_or-drop, e)
+
+pub eight_of : (ps : List ℕ) (a k : ℕ) {c : ℕ} {eights : List (List ℕ)} → eights ≡ first_chunks 8 c (take (length ps - a) (drop a ps)) → k < c
+    → get_or (get_or eights k []) 7 0 ≡ get_or ps (a + 8 * k + 7) 0
+eight_of ps a k {c} e l =
+    let all = take_all (length ps - a) (drop a ps) (rw length-drop (omega arith)) in
+    let j : a + (8 * k + 7) ≡ a + 8 * k + 7 = omega arith in
+    rw (e, all) (eight_last c (drop a ps) k l ∙ rw (get_or-drop, j))
+
+-- the same of the first n pairs
+pub one_within : {ps : List ℕ} {n from end : ℕ} → OneOuter (take n ps) from end → end ≤ n → OneOuter ps from end
+one_within {ps} {n} {from} r h = record {
+  after = r.after;
+  alike = λ k a b. rw (get_or-take n ps k 0 (omega arith), get_or-take n ps from 0 (omega arith)) at (r.alike k a b);
+}
 
 -- ---- the first run of what is left
 

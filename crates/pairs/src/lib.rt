@@ -9,14 +9,7 @@ ghost use Rattle.pairs.specs.Pairs.{Inners, Held, OneOuter, RunEnd};
 fn outers_fall(pairs: &[u32]) -> bool
     ensures { result ≡ outers_fall pairs.now }
 {
-    let mut i = 1;
-    while i < pairs.len() {
-        if pairs[i] / 65536 < pairs[i - 1] / 65536 {
-            return true;
-        }
-        i += 1;
-    }
-    false
+    !pairs.is_sorted_by_key(|pair| *pair / 65536)
 }
 
 // The set holds the inners of the outer that pair i has: it is cleared where that outer is a new one.
@@ -27,11 +20,7 @@ fn turn_to(set: &mut [u32], pairs: &[u32], i: usize)
     requires held { Held set.old pairs.now i }
     ensures { Inners set.new (outer (get_or pairs.now i 0)) (take i pairs.now) }
 {
-    if i == 0 {
-        bits::clear(set, 2048);
-        return;
-    }
-    if pairs[i] / 65536 != pairs[i - 1] / 65536 {
+    if i == 0 || pairs[i] / 65536 != pairs[i - 1] / 65536 {
         bits::clear(set, 2048);
     }
 }
@@ -42,15 +31,13 @@ fn stands_twice(set: &mut [u32], pairs: &[u32]) -> bool
     requires pairs_value { outers_fall pairs.now ≡ false }
     ensures { result ≡ twice pairs.now }
 {
-    let mut i = 0;
-    while i < pairs.len() {
+    for (i, pair) in pairs.iter().enumerate() {
         turn_to(set, pairs, i);
-        let inner = (pairs[i] % 65536) as usize;
+        let inner = (*pair % 65536) as usize;
         if bits::contains(set, inner) {
             return true;
         }
         bits::put(set, inner);
-        i += 1;
     }
     false
 }
@@ -59,15 +46,7 @@ fn stands_twice(set: &mut [u32], pairs: &[u32]) -> bool
 fn rises(pairs: &[u32]) -> bool
     ensures { result ≡ true → Rises 0 pairs.now }
 {
-    let mut rises = true;
-    let mut i = 1;
-    while i < pairs.len() {
-        if pairs[i] <= pairs[i - 1] {
-            rises = false;
-        }
-        i += 1;
-    }
-    rises
+    pairs.is_sorted_by(|a, b| *a < *b)
 }
 
 // 2. Pairs that rise need no set: no outer falls, and none stands twice.
@@ -91,28 +70,23 @@ pub fn copy_pairs(work: &mut [u32], pairs: &[u32])
     requires { length pairs.now ≤ length work.old }
     ensures { work.new ≡ pairs.now ++ drop (length pairs.now) work.old }
 {
-    let mut i = 0;
-    while i < pairs.len() {
-        work[i] = pairs[i];
-        i += 1;
-    }
+    work[..pairs.len()].copy_from_slice(pairs);
 }
 
 // A place behind `from` up to which all pairs have its outer, 8 pairs at a time: as outers don't fall, the last of 8 speaks for the others.
-fn leap(pairs: &[u32], from: usize, n: usize) -> usize
-    requires n_in_bounds { (n ≤ length pairs.now) × (from < n) }
-    requires pairs_value { outers_fall (take n pairs.now) ≡ false }
-    ensures { OneOuter pairs.now from result × (result ≤ n) }
+fn leap(pairs: &[u32], from: usize) -> usize
+    requires from_in_bounds { from < length pairs.now }
+    requires pairs_value { outers_fall pairs.now ≡ false }
+    ensures { OneOuter pairs.now from result × (result ≤ length pairs.now) }
 {
     let outer = pairs[from] / 65536;
-    let mut end = from + 1;
-    while end + 8 <= n {
-        if pairs[end + 7] / 65536 != outer {
-            return end;
+    let (eights, _) = pairs[from + 1..].as_chunks::<8>();
+    for (k, eight) in eights.iter().enumerate() {
+        if eight[7] / 65536 != outer {
+            return from + 1 + 8 * k;
         }
-        end += 8;
     }
-    end
+    from + 1 + 8 * eights.len()
 }
 
 // The place of the first of the n pairs, behind `from`, that has another outer; n where none has.
@@ -123,12 +97,11 @@ pub fn end_of_run(pairs: &[u32], from: usize, n: usize) -> usize
     ensures { RunEnd pairs.now n from result }
 {
     let outer = pairs[from] / 65536;
-    let mut end = leap(pairs, from, n);
-    while end < n {
-        if pairs[end] / 65536 != outer {
-            return end;
+    let start = leap(&pairs[..n], from);
+    for k in start..n {
+        if pairs[k] / 65536 != outer {
+            return k;
         }
-        end += 1;
     }
-    end
+    n
 }

@@ -1,5 +1,4 @@
 use mathlib.Core.Path.{sym, ◌∙◌}
-use borrow.Author.Rules.{rules}
 use Rattle.lists.specs.Pick.{chain}
 use Rattle.rules.specs.Lists.{bad_pairs}
 use Rattle.pairs.proofs.Laws.{rises_kept}

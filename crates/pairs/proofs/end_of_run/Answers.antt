@@ -1,18 +1,23 @@
-use Prim.Native.Nat.{◌≤◌, ◌-◌}
+use Prim.Native.Nat.{◌≤◌}
+use mathlib.Core.Path.{◌≡◌}
 use native.Mathlib.Omega.{arith}
-use borrow.Author.Rules.{rules}
-use Rattle.pairs.specs.Pairs.{OneOuter}
-use Rattle.pairs.proofs.Laws.{one_more}
+use lib.Seq.{length-take-le}
+use Rattle.pairs.proofs.Laws.{one_more, one_within}
 use Rattle.pairs.proofs.end_of_run.Goals as goal
 
-pub loop-end-init : goal.loop-end-init
-loop-end-init c = c.leap-end.ensures
+pub loop-k-init : goal.loop-k-init
+loop-k-init c =
+    let a = c.args in
+    let h : c.leap-start.result ≤ a.n = omega (arith, length-take-le a.n a.pairs.now c.requires.n_in_bounds) in
+    (one_within c.leap-start.ensures.0 h, h)
 
-pub returns-then-pairs-end : goal.returns-then-pairs-end
-returns-then-pairs-end c = let l = c.loop-end in record { one = l.invariant.0; inside = l.invariant.1; other = λ _. c.if-pairs-end.true }
+pub returns-then-pairs-k : goal.returns-then-pairs-k
+returns-then-pairs-k c = let l = c.loop-k in record { one = l.invariant.0; inside = l.invariant.1; other = λ _. c.if-pairs-k.true }
 
-pub loop-end-preserved : goal.loop-end-preserved
-loop-end-preserved c = let l = c.loop-end in (one_more l.invariant.0 c.if-pairs-end.false, search rules)
+pub loop-k-preserved : goal.loop-k-preserved
+loop-k-preserved c = (one_more c.loop-k.invariant.0 c.if-pairs-k.false, omega arith)
 
 pub returns : goal.returns
-returns c = let l = c.loop-end in record { one = l.invariant.0; inside = l.invariant.1; other = λ h. absurd (omega arith) }
+returns c =
+    let e : c.loop-k.k ≡ c.args.n = omega arith in
+    record { one = rw e at c.loop-k.invariant.0; inside = omega arith; other = λ h. absurd (omega arith) }

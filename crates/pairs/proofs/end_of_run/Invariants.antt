@@ -1,12 +1,6 @@
-use Prim.Native.Nat.{◌≤◌, ◌-◌}
-use native.Mathlib.Omega.{arith}
-use borrow.Author.Rules.{rules}
+use Prim.Native.Nat.{◌≤◌}
 use Rattle.pairs.specs.Pairs.{OneOuter}
-use Rattle.pairs.proofs.Laws.{one_more}
 use Rattle.pairs.proofs.end_of_run.Given as goal
 
-abbrev pub invariant-loop-end : goal.invariant-loop-end
-invariant-loop-end l = OneOuter l.pairs l.from l.end × (l.end ≤ l.n)
-
-abbrev pub decreases-loop-end : goal.decreases-loop-end
-decreases-loop-end l = l.n - l.end
+abbrev pub invariant-loop-k : goal.invariant-loop-k
+invariant-loop-k l = OneOuter l.pairs l.from l.k × (l.k ≤ l.n)

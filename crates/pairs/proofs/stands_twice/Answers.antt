@@ -1,19 +1,14 @@
-use Prim.Native.Nat.{◌≤◌, ◌-◌}
 use mathlib.Core.Path.{sym, ◌∙◌, ◌≡◌}
-use mathlib.Core.Bool.{false}
 use native.Mathlib.Omega.{arith}
 use native.Mathlib.Nat.{not-suc-le-zero}
 use lib.ListN.{length}
-use borrow.Author.Rules.{rules}
 use Rattle.lists.proofs.Tests.{some_none, some_more, some_at}
-use Rattle.laws.specs.Pairs.{twice-some, again}
-use Rattle.lists.specs.Search.{some}
-use Rattle.pairs.specs.Pairs.{Held}
+use Rattle.laws.specs.Pairs.{twice-some}
 use Rattle.pairs.proofs.Laws.{inners_again, inners_more}
 use Rattle.pairs.proofs.stands_twice.Goals as goal
 
 pub loop-i-init : goal.loop-i-init
-loop-i-init c = (search rules, search rules, record { is = λ h. absurd (not-suc-le-zero h) }, some_none _)
+loop-i-init c = (record { is = λ h. absurd (not-suc-le-zero h) }, some_none _)
 
 pub returns-then-contains : goal.returns-then-contains
 returns-then-contains c = let l = c.loop-i in
@@ -23,13 +18,11 @@ returns-then-contains c = let l = c.loop-i in
 pub loop-i-preserved : goal.loop-i-preserved
 loop-i-preserved c = let l = c.loop-i in
     let i = inners_again c.args.pairs.now l.i c.turn_to.ensures in (
-      omega arith,
-      omega arith,
       rw c.put.ensures (inners_more c.args.pairs.now l.i (omega arith) (omega arith) c.turn_to.ensures),
-      some_more _ l.i l.invariant.3 (sym i ∙ sym c.contains.ensures ∙ c.if-contains.false),
+      some_more _ l.i l.invariant.1 (sym i ∙ sym c.contains.ensures ∙ c.if-contains.false),
     )
 
 pub returns : goal.returns
 returns c = let l = c.loop-i in
     let e : l.i ≡ length c.args.pairs.now = omega arith in
-    sym (twice-some _ ∙ rw (← e) l.invariant.3)
+    sym (twice-some _ ∙ rw (← e) l.invariant.1)

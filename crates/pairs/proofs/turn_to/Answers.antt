@@ -1,14 +1,14 @@
 use native.Mathlib.Omega.{arith}
-use borrow.Author.Rules.{rules}
 use Rattle.pairs.proofs.Laws.{inners_first, inners_new, inners_same}
 use Rattle.pairs.proofs.turn_to.Goals as goal
+use Rattle.pairs.proofs.turn_to.Goals.{then-i-eq0-via-then-i-eq0, then-i-eq0-via-else-i-eq0+then-pairs-i}
 
 pub returns-then-i-eq0 : goal.returns-then-i-eq0
 returns-then-i-eq0 c = let a = c.args in
-    inners_first 2048 a.pairs.now a.i _ c.if-i-eq0.true c.clear.ensures
-
-pub returns-then-pairs-i : goal.returns-then-pairs-i
-returns-then-pairs-i c = inners_new 2048 c.args.pairs.now c.args.i c.requires.pairs_value c.requires.i_in_bounds c.if-i-eq0.false (omega (arith, c.if-pairs-i.true)) c.clear-then-pairs-i.ensures
+    elim c.then-i-eq0.branch [
+      | then-i-eq0-via-then-i-eq0 w ↦ inners_first 2048 a.pairs.now a.i _ w.if-i-eq0.true c.clear.ensures
+      | then-i-eq0-via-else-i-eq0+then-pairs-i w ↦ inners_new 2048 a.pairs.now a.i c.requires.pairs_value c.requires.i_in_bounds w.if-i-eq0.false (omega (arith, w.if-pairs-i.true)) c.clear.ensures
+    ]
 
 pub returns-else-pairs-i : goal.returns-else-pairs-i
 returns-else-pairs-i c = inners_same c.args.pairs.now c.args.i c.if-i-eq0.false c.if-pairs-i.false c.requires.held
