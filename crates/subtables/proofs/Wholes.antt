@@ -50,25 +50,6 @@ module _ {s : List ℕ} {t : Subtable} (o : Opened s t) (small : (i : ℕ) → g
       let l = h n (omega arith) in
       rw (flat_append, cells_own size first place n (λ k m. h k (omega arith)), append-nil, cell_own size (first + n) l.0 l.1, l.2, suc-mul, take-add, drop-drop)
 
--- `a != b` does not hold
-pub same_flag : (a b : Bool) → not (beq a b) ≡ false → a ≡ b
-same_flag true true e = refl
-same_flag true false e = absurd (true≢false e)
-same_flag false true e = absurd (true≢false e)
-same_flag false false e = refl
-
--- a loop over the kept columns
-pub own_none : (w : List ℕ) (wide : ℕ) → Own w wide 0
-own_none w wide = record { each = λ j h. absurd (omega arith) }
-
-pub own_more : {w : List ℕ} {wide n c : ℕ} → Own w wide n → c ≡ column_in w wide n → c ≡ n → Own w wide (n + 1)
-own_more {n = n} o e f = record {
-  each = λ j h. elim (dec_lt j n) [
-    | yes l ↦ o.each j l
-    | no l ↦ (let q : j ≡ n = omega arith in rw q (sym e ∙ f))
-  ];
-}
-
 -- where a column's cell stands, and its size
 word_cell : (is_long : Bool) (words c : ℕ) → c < words → (cell_size is_long words c ≡ word_size is_long) × (cell_at is_long words c ≡ c * word_size is_long)
 unfolding cell_size cell_at

@@ -66,7 +66,7 @@ fn word_field(p: Columns) -> u32
     ensures { result ≡ pick p.long 0x8000 0 + p.wide }
 {
     let wide = p.wide as u32;
-    if p.long { 32768 + wide } else { wide }
+    if p.long { 0x8000 + wide } else { wide }
 }
 
 fn put_header(out: &mut [u8], p: Columns, items: usize)

@@ -41,11 +41,10 @@ fn put_item(out: &mut [u8], work: &[u32], s: &[u8], t: Subtable, p: Columns, ite
     let row = t.row;
     if item < t.items {
         let at = t.rows + item * row;
-        let end = s.len();
-        copy_ahead(out, &s[at..end], row);
-        return;
+        copy_ahead(out, &s[at..], row);
+    } else {
+        put_row(&mut out[0..row], work, s, t, p, item);
     }
-    put_row(&mut out[0..row], work, s, t, p, item);
 }
 
 // Writes the rows of the items of so many pairs, from one on.
@@ -65,11 +64,10 @@ pub fn put_items(
     ensures { out.new ≡ flat (λ i. row_bytes s.now t.at (plan_in work.now p) i) (items_in work.now from items) }
 {
     let row = t.row;
-    let end = out.len();
     let mut at = 0;
     for &pair in &work[from..from + items] {
         let item = (pair % 65536) as usize;
-        put_item(&mut out[at..end], work, s, t, p, item);
+        put_item(&mut out[at..], work, s, t, p, item);
         at += row;
     }
 }

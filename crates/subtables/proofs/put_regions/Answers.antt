@@ -39,7 +39,7 @@ pub loop-j-preserved : goal.loop-j-preserved
 loop-j-preserved c = let a = c.args in
     let n = named (goal.at.loop-j-preserved c).After-region_index-r in
     indexes_more a.s.now a.t.at a.work.now a.p.wide _ c.loop-j.invariant (turn (goal.at.loop-j-preserved c).In-loop-j) c.put_u16.ensures
-        c.rank_below-new.ensures.value c.region_index-r.ensures.value c.column_at.ensures n.0 n.1
+    c.rank_below-new.ensures.value c.region_index-r.ensures.value c.column_at.ensures n.0 n.1
 
 pub returns : goal.returns
 returns c = let a = c.args in

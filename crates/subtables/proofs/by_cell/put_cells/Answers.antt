@@ -30,7 +30,7 @@ overflow_mul-k c = omega (arith, turn (goal.at.overflow_mul-k c).In-loop-k)
 pub loop-k-preserved : goal.loop-k-preserved
 loop-k-preserved c = let a = c.args in
     cells_more a.s.now a.t.at a.item a.size a.work.now a.wide a.first _ c.loop-k.invariant (turn (goal.at.loop-k-preserved c).In-loop-k) c.put_entry.ensures
-        c.low_of.ensures c.column_at-column.ensures
+    c.low_of.ensures c.column_at-column.ensures
 
 pub returns : goal.returns
 returns c = let a = c.args in

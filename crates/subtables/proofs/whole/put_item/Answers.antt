@@ -47,7 +47,7 @@ pub put_row-requires-clause-out_len : goal.put_row-requires-clause-out_len
 put_row-requires-clause-out_len c = let a = c.args in
     mid_len 0 a.t.row a.out.now (search rules) ∙ omega (arith, whole (goal.at.put_row-requires-clause-out_len c).Else-item-t)
 
-pub returns : goal.returns
-returns c = let a = c.args in
+pub returns-else-item-t : goal.returns-else-item-t
+returns-else-item-t c = let a = c.args in
     let e = c.put_row.ensures in
-    take_at _ _ a.t.row (ap length e ∙ length-row a.s.now a.t.at a.item a.work.now a.p ∙ sym (whole (goal.at.returns c).Else-item-t)) ∙ e
+    take_at _ _ a.t.row (ap length e ∙ length-row a.s.now a.t.at a.item a.work.now a.p ∙ sym (whole (goal.at.returns-else-item-t c).Else-item-t)) ∙ e

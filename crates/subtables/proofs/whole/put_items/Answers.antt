@@ -1,5 +1,6 @@
 use Prim.Native.Nat.{◌+◌, ◌*◌, ◌%◌, ◌-◌, ◌≤◌}
 use mathlib.Core.Path.{◌≡◌, refl, ap, sym, ◌∙◌}
+use native.Mathlib.Nat.{le_refl}
 use native.Mathlib.Omega.{arith}
 use lib.ListN.{length, get_or}
 use borrow.Rule.Slice.PartMut.{mid_of, mid_len}
@@ -28,9 +29,8 @@ turn c =
     omega (arith, front_room a.s.now a.t.at a.work.now a.p a.from a.items c.loop-pair.invariant (omega (arith, c.loop-pair-test.true)) (c.requires.out_len ∙ ap (λ n. a.items * n) r))
 
 -- as much is lent as lies behind the rows so far
-lent : (c : In-loop-pair) → let n = length c.args.out.now in
-    length (mid_of c.loop-pair.at (n - c.loop-pair.at) c.loop-pair.out) ≡ n - c.loop-pair.at
-lent c = mid_len c.loop-pair.at (length c.args.out.now) c.loop-pair.out (omega (arith, c.loop-pair.invariant.same))
+lent : (c : In-loop-pair) → let l = c.loop-pair in length (mid_of l.at (length l.out - l.at) l.out) ≡ length l.out - l.at
+lent c = mid_len c.loop-pair.at (length c.loop-pair.out) c.loop-pair.out (le_refl _)
 
 pub loop-pair-init : goal.loop-pair-init
 loop-pair-init c = fronted_none _ _
@@ -50,10 +50,10 @@ overflow_add-at c = omega (arith, turn (goal.at.overflow_add-at c).In-loop-pair)
 pub loop-pair-preserved : goal.loop-pair-preserved
 loop-pair-preserved c = let a = c.args in
     let w = c.put_item.new.out in
-    let n = length a.out.now in
+    let n = length c.loop-pair.out in
     let m : length w ≡ length (mid_of c.loop-pair.at (n - c.loop-pair.at) c.loop-pair.out) = search rules in
     let e = length-row a.s.now a.t.at (get_or a.work.now (a.from + c.loop-pair.pair-index) 0 % 65536) a.work.now a.p in
-    fronted_more w {n = n} c.loop-pair.invariant (row_is (goal.at.loop-pair-preserved c).Start ∙ sym e) (turn (goal.at.loop-pair-preserved c).In-loop-pair) refl (m ∙ lent (goal.at.loop-pair-preserved c).In-loop-pair)
+    fronted_more w {n = n} c.loop-pair.invariant (row_is (goal.at.loop-pair-preserved c).Start ∙ sym e) (turn (goal.at.loop-pair-preserved c).In-loop-pair) c.loop-pair.invariant.same (m ∙ lent (goal.at.loop-pair-preserved c).In-loop-pair)
     (c.put_item.ensures ∙ row_at a.s.now a.t.at a.work.now a.p a.from a.items c.loop-pair.pair-index c.loop-pair-test.true)
 
 pub returns : goal.returns
