@@ -1,10 +1,9 @@
 -- A row that is kept whole: its new cells, each of its old size and one behind the other, are the source's bytes.
 use Prim.Native.Nat.{ℕ, zero, suc, ◌+◌, ◌*◌, ◌-◌, ◌≤◌, ◌<◌}
 use mathlib.Core.Path.{◌≡◌, refl, sym, ap, ◌∙◌}
-use mathlib.Core.Bool.{Bool, true, false, not, beq, true≢false}
+use mathlib.Core.Bool.{Bool}
 use mathlib.Core.List.{List, append-nil}
 use native.Mathlib.Omega.{arith}
-use native.Mathlib.Decide.{dec_lt}
 use native.Mathlib.Nat.{zero-add, suc-mul, zero-mul, add-sub_cancel_left}
 use lib.ListN.{get_or, take, drop}
 use lib.Seq.{take-add, drop-drop}
@@ -21,8 +20,7 @@ use Rattle.readers.specs.declared.subtable.Subtable.{Subtable}
 use Rattle.readers.specs.Opened.{Opened}
 use Rattle.readers.proofs.Subtables.{cell_ends}
 use Rattle.rows.specs.declared.Columns.{Columns}
-use Rattle.rows.specs.Area.{column_in}
-use Rattle.subtables.specs.Kept.{Own, KeptWhole}
+use Rattle.subtables.specs.Kept.{KeptWhole}
 use Rattle.rows.specs.Length.{row_of}
 use Rattle.subtables.specs.Written.{columns_from, plan_in}
 use Rattle.subtables.proofs.Lows.{cell_next, low_there}

@@ -1,11 +1,11 @@
 -- Laws of the writers, each for its part of the output: cells, a row, rows, region indexes, the header.
 use Prim.Native.Nat.{ℕ, ◌+◌, ◌*◌, ◌-◌, ◌≤◌, ◌<◌}
 use mathlib.Core.Path.{◌≡◌, refl, ap, ◌∙◌}
-use mathlib.Core.Bool.{Bool, true, false}
+use mathlib.Core.Bool.{true}
 use mathlib.Core.List.{List, [], ◌++◌}
 use native.Mathlib.Nat.{add-sub_cancel_left}
 use native.Mathlib.Omega.{arith}
-use lib.ListN.{length, get_or, take, drop, length-append, length-take}
+use lib.ListN.{length, get_or, drop, length-append, length-take}
 use lib.Seq.{get_or-take, get_or-drop}
 use borrow.Rule.Slice.PartMut.{put_mid, mid_len}
 use mir.Val.{of_z}
@@ -19,31 +19,20 @@ use Rattle.lists.proofs.Places.{place-select}
 use Rattle.lists.proofs.Laid.{Laid}
 use Rattle.lists.proofs.Evenly.{even_room, even_more, even_all}
 use Rattle.cells.specs.Be.{be_bytes, Wrote}
-use Rattle.cells.specs.Sign.{signed_bytes, Size}
+use Rattle.cells.specs.Sign.{signed_bytes}
 use Rattle.cells.proofs.Cells.{length-be_bytes, wrote_cat}
 use Rattle.bits.specs.Bits.{has}
 use Rattle.opentype.specs.Store.{region_count}
-use Rattle.opentype.specs.Subtable.{word_size, rest_size, cell_size, region_index, delta}
+use Rattle.opentype.specs.Subtable.{word_size, rest_size, region_index, delta}
 use Rattle.rules.specs.Lists.{inner}
 use Rattle.rules.specs.Regions.{new_region}
 use Rattle.rules.specs.Rewrite.{row_bytes}
 use Rattle.laws.specs.Lengths.{length_cells as lengths}
-use Rattle.readers.specs.declared.subtable.Subtable.{Subtable}
 use Rattle.rows.specs.declared.Columns.{Columns}
 use Rattle.rows.specs.Area.{part, column_in, columns_in, used_in, used_of}
-use Rattle.subtables.specs.Kept.{Named, Fitting}
+use Rattle.subtables.specs.Kept.{Named}
 use Rattle.rows.specs.Length.{row_of}
 use Rattle.subtables.specs.Written.{columns_from, items_in, plan_in, cells_of, indexes_of}
-
--- ---- sizes
-
-pub word_is : (long : Bool) {n : ℕ} → n ≡ word_size long → Size n
-word_is true e = record { low = omega arith; high = omega arith; even = λ z. omega arith }
-word_is false e = record { low = omega arith; high = omega arith; even = λ z. omega arith }
-
-pub rest_is : (long : Bool) {n : ℕ} → n ≡ rest_size long → Size n
-rest_is true e = record { low = omega arith; high = omega arith; even = λ z. omega arith }
-rest_is false e = record { low = omega arith; high = omega arith; even = λ z. omega arith }
 
 -- ---- the header: three cells of 2 bytes
 
@@ -54,11 +43,6 @@ three_laid {l} {xs = xs} {ys} {zs} p q r a b c h =
     w.is ∙ sets_all (xs ++ ys ++ zs) l (rw (length-append, length-append) (omega arith))
 
 -- ---- the cells of an item in some kept columns
-
--- c is one of them
-pub fitting_at : {t : Subtable} {w : List ℕ} {wide first count size k c : ℕ} → Fitting t w wide first count size → k < count → c ≡ column_in w wide (first + k)
-    → (c < t.columns) × (size ≤ cell_size t.long t.words c)
-fitting_at {k = k} f h e = rw e (f.there k h, f.holds k h)
 
 module _ (s : List ℕ) (at item size : ℕ) (w : List ℕ) (wide first : ℕ) where
   abbrev pub cell_in : ℕ → List ℕ

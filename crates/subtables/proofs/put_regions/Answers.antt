@@ -26,15 +26,6 @@ named c = names c.requires.named.0 c.loop-j-test.true c.column_at.ensures c.regi
 pub loop-j-init : goal.loop-j-init
 loop-j-init c = laid_none _ _
 
-pub region_index-r-requires-clause-column_lt_columns : goal.region_index-r-requires-clause-column_lt_columns
-region_index-r-requires-clause-column_lt_columns c = omega (arith, c.requires.inside.each c.loop-j.j c.loop-j-test.true, c.column_at.ensures)
-
-pub rank_below-new-requires : goal.rank_below-new-requires
-rank_below-new-requires c = omega (arith, (named (goal.at.rank_below-new-requires c).After-region_index-r).0)
-
-pub put_u16-requires : goal.put_u16-requires
-put_u16-requires c = omega (arith, turn (goal.at.put_u16-requires c).In-loop-j)
-
 pub loop-j-preserved : goal.loop-j-preserved
 loop-j-preserved c = let a = c.args in
     let n = named (goal.at.loop-j-preserved c).After-region_index-r in

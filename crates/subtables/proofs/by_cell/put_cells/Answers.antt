@@ -4,7 +4,7 @@ use native.Mathlib.Omega.{arith}
 use lib.ListN.{length}
 use borrow.Author.Rules.{rules}
 use Rattle.lists.proofs.Laid.{laid_none}
-use Rattle.subtables.proofs.Writing.{fitting_at, cells_room, cells_more, cells_all}
+use Rattle.subtables.proofs.Writing.{cells_room, cells_more, cells_all}
 use Rattle.subtables.proofs.by_cell.put_cells.Goals as goal
 use Rattle.subtables.proofs.by_cell.put_cells.Goals.{In-loop-k}
 
@@ -16,16 +16,6 @@ turn c =
 
 pub loop-k-init : goal.loop-k-init
 loop-k-init c = rw zero-mul (laid_none _ _)
-
-pub low_of-requires-clause-column_lt_columns : goal.low_of-requires-clause-column_lt_columns
-low_of-requires-clause-column_lt_columns c = let f = fitting_at c.requires.fitting (omega (arith, c.loop-k-test.true)) c.column_at-column.ensures in
-    (f.0, search rules, f.1)
-
-pub put_entry-requires-clause-size_in_bounds : goal.put_entry-requires-clause-size_in_bounds
-put_entry-requires-clause-size_in_bounds c = omega (arith, turn (goal.at.put_entry-requires-clause-size_in_bounds c).In-loop-k)
-
-pub overflow_mul-k : goal.overflow_mul-k
-overflow_mul-k c = omega (arith, turn (goal.at.overflow_mul-k c).In-loop-k)
 
 pub loop-k-preserved : goal.loop-k-preserved
 loop-k-preserved c = let a = c.args in

@@ -18,14 +18,8 @@ turn c =
 pub loop-pair-init : goal.loop-pair-init
 loop-pair-init c = laid_none _ _
 
-pub overflow_add-end : goal.overflow_add-end
-overflow_add-end c = omega (arith, turn (goal.at.overflow_add-end c).In-loop-pair)
-
 pub slice_bounds-put_row-end : goal.slice_bounds-put_row-end
 slice_bounds-put_row-end c = omega (arith, turn (goal.at.slice_bounds-put_row-end c).In-loop-pair)
-
-pub put_row-requires-clause-out_len : goal.put_row-requires-clause-out_len
-put_row-requires-clause-out_len c = omega (arith, turn (goal.at.put_row-requires-clause-out_len c).In-loop-pair, c.row_length-row.ensures.value)
 
 pub loop-pair-preserved : goal.loop-pair-preserved
 loop-pair-preserved c = let a = c.args in

@@ -1,5 +1,5 @@
 use Prim.Native.Nat.{◌+◌, ◌*◌, ◌%◌, ◌-◌, ◌≤◌}
-use mathlib.Core.Path.{◌≡◌, refl, ap, sym, ◌∙◌}
+use mathlib.Core.Path.{◌≡◌, ap, sym, ◌∙◌}
 use native.Mathlib.Nat.{le_refl}
 use native.Mathlib.Omega.{arith}
 use lib.ListN.{length, get_or}
@@ -35,17 +35,8 @@ lent c = mid_len c.loop-pair.at (length c.loop-pair.out) c.loop-pair.out (le_ref
 pub loop-pair-init : goal.loop-pair-init
 loop-pair-init c = fronted_none _ _
 
-pub slice_bounds-put_item-count : goal.slice_bounds-put_item-count
-slice_bounds-put_item-count c = omega (arith, turn (goal.at.slice_bounds-put_item-count c).In-loop-pair)
-
-pub slice_bounds-put_item-start : goal.slice_bounds-put_item-start
-slice_bounds-put_item-start c = omega (arith, turn (goal.at.slice_bounds-put_item-start c).In-loop-pair)
-
 pub put_item-requires-clause-row_in_bounds : goal.put_item-requires-clause-row_in_bounds
 put_item-requires-clause-row_in_bounds c = omega (arith, turn (goal.at.put_item-requires-clause-row_in_bounds c).In-loop-pair, lent (goal.at.put_item-requires-clause-row_in_bounds c).In-loop-pair)
-
-pub overflow_add-at : goal.overflow_add-at
-overflow_add-at c = omega (arith, turn (goal.at.overflow_add-at c).In-loop-pair)
 
 pub loop-pair-preserved : goal.loop-pair-preserved
 loop-pair-preserved c = let a = c.args in
