@@ -82,17 +82,22 @@ three : (a b c : Bool) → pick (pick a true b) true c ≡ pick a true (pick b t
 three true b c = refl
 three false b c = refl
 
-abbrev pub nothing : Measure
-nothing = record { count = 0; length = 0; live = false; index = false; middle = false }
+-- nothing is measured yet
+pub record Nothing (m : Measure) : Type 0 where
+  pub count : m.count ≡ 0
+  pub length : m.length ≡ 0
+  pub live : m.live ≡ false
+  pub index : m.index ≡ false
+  pub middle : m.middle ≡ false
 
-pub left_all : (s : List ℕ) (rs : List Run) (w : List ℕ) → NoneUsed w → Left s rs rs w nothing
-left_all s rs w none = record {
-  noted = refl;
-  count = omega arith;
-  total = omega arith;
-  live = refl;
-  index = refl;
-  middle = refl;
+pub left_all : (s : List ℕ) (rs : List Run) (w : List ℕ) {m : Measure} → Nothing m → NoneUsed w → Left s rs rs w m
+left_all s rs w e none = record {
+  noted = rw e.count;
+  count = rw e.count (omega arith);
+  total = rw e.length (omega arith);
+  live = rw e.live;
+  index = rw e.index;
+  middle = rw e.middle;
   used = λ q h. rw (none.is q);
   subtables = λ next. refl;
 }
@@ -132,12 +137,12 @@ pub record Turn (s pairs w : List ℕ) (m : Measure) (at : ℕ) : Type 0 where
   pub next : at < length pairs → m.count ≤ outer (get_or pairs at 0)
   pub left : Left s (runs pairs) (runs (drop at pairs)) w m
 
-pub turn_first : (s pairs w : List ℕ) → NoneUsed w → Turn s pairs w nothing 0
-turn_first s pairs w none = record {
+pub turn_first : (s pairs w : List ℕ) {m : Measure} → Nothing m → NoneUsed w → Turn s pairs w m 0
+turn_first s pairs w e none = record {
   inside = omega arith;
-  fits = record { few = omega arith; small = omega arith };
-  next = λ h. omega arith;
-  left = left_all s (runs pairs) w none;
+  fits = record { few = omega (arith, e.count); small = omega (arith, e.length) };
+  next = λ h. omega (arith, e.count);
+  left = left_all s (runs pairs) w e none;
 }
 
 module _ {s w : List ℕ} {m : Measure} {n at end : ℕ} (h : n ≤ length w) (t : Turn s (take n w) w m at) (e : RunEnd w n at end) where

@@ -1,8 +1,7 @@
 // The first pass over a store: every check is asked, and every size worked out, before a byte is written.
 #![tactic(auto)]
 
-ghost use Rattle.std.specs.Prelude.{◌≡◌, true, false, ◌+◌, ◌^◌, ◌≤◌, ◌<◌, length, take};
-ghost use Rattle.lists.specs.Pick.{pick};
+ghost use Rattle.std.specs.Prelude.{◌≡◌, false, ◌+◌, ◌^◌, ◌≤◌, ◌<◌, length, take};
 ghost use Rattle.opentype.specs.Store.{region_count};
 ghost use Rattle.rules.specs.Lists.{outers_fall};
 ghost use Rattle.rules.specs.Open.{bad_store};
@@ -15,7 +14,7 @@ use rows::{Columns, mark_regions, plan_columns, subtable_length};
 use rules::Refusal;
 
 // What is found of the subtables measured so far: how many, their bytes, whether some kept delta is not 0, rows 8 and 9.
-#[derive(Drop)]
+#[derive(Default, Drop)]
 pub struct Measure {
     pub count: usize,
     pub length: usize,
@@ -30,12 +29,6 @@ pub enum Measured {
     Refused(Refusal),
 }
 
-fn either(a: bool, b: bool) -> bool
-    ensures { result ≡ pick a true b }
-{
-    if a { true } else { b }
-}
-
 // The subtable with the columns p joins those measured so far.
 fn with_subtable(m: Measure, p: Columns, bad: bool, length: usize) -> Measure
     requires { (m.count < 256) × (m.length ≤ 2 ^ 31) × (length ≤ 2 ^ 31) × (p.wide + p.narrow ≤ 4096) }
@@ -44,9 +37,9 @@ fn with_subtable(m: Measure, p: Columns, bad: bool, length: usize) -> Measure
     Measure {
         count: m.count + 1,
         length: m.length + length,
-        live: either(m.live, 0 < p.wide + p.narrow),
-        index: either(m.index, bad),
-        middle: either(m.middle, p.middle),
+        live: m.live || 0 < p.wide + p.narrow,
+        index: m.index || bad,
+        middle: m.middle || p.middle,
     }
 }
 
@@ -71,8 +64,7 @@ fn measure_run(
     let p = plan_columns(work, s, t, from, to);
     let bad = mark_regions(work, s, t, p, regions);
     let length = subtable_length(p, to - from);
-    let k = m.count;
-    work[8832 + k] = length as u32;
+    work[8832 + m.count] = length as u32;
     with_subtable(m, p, bad, length)
 }
 
@@ -93,23 +85,14 @@ pub fn measure_runs(work: &mut [u32], s: &[u8], n: usize, regions: usize) -> Mea
     ensures measuring { Measuring s.now (take n work.old) work.new result }
     ensures work_unchanged { take 8704 work.new ≡ take 8704 work.old }
 {
-    let mut m = Measure {
-        count: 0,
-        length: 0,
-        live: false,
-        index: false,
-        middle: false,
-    };
+    let mut m = Measure::default();
     let mut at = 0;
+    // A turn goes on where its run ends, and no iterator lends the runs: the turn writes to the numbers that hold them.
     while at < n {
         let end = pairs::end_of_run(work, at, n);
         match open_subtable(s, (work[at] / 65536) as usize) {
-            Found::Refused(r) => {
-                return Measured::Refused(r);
-            }
-            Found::Open(t) => {
-                m = measure_run(work, s, t, m, at, end, regions);
-            }
+            Found::Refused(r) => return Measured::Refused(r),
+            Found::Open(t) => m = measure_run(work, s, t, m, at, end, regions),
         }
         at = end;
     }

@@ -1,10 +1,9 @@
 -- A row that is kept whole: its new cells, each of its old size and one behind the other, are the source's bytes.
 use Prim.Native.Nat.{ℕ, zero, suc, ◌+◌, ◌*◌, ◌-◌, ◌≤◌, ◌<◌}
 use mathlib.Core.Path.{◌≡◌, refl, sym, ap, ◌∙◌}
-use mathlib.Core.Bool.{Bool, true, false, not, beq, true≢false}
+use mathlib.Core.Bool.{Bool}
 use mathlib.Core.List.{List, append-nil}
 use native.Mathlib.Omega.{arith}
-use native.Mathlib.Decide.{dec_lt}
 use native.Mathlib.Nat.{zero-add, suc-mul, zero-mul, add-sub_cancel_left}
 use lib.ListN.{get_or, take, drop}
 use lib.Seq.{take-add, drop-drop}
@@ -21,8 +20,7 @@ use Rattle.readers.specs.declared.subtable.Subtable.{Subtable}
 use Rattle.readers.specs.Opened.{Opened}
 use Rattle.readers.proofs.Subtables.{cell_ends}
 use Rattle.rows.specs.declared.Columns.{Columns}
-use Rattle.rows.specs.Area.{column_in}
-use Rattle.subtables.specs.Kept.{Own, KeptWhole}
+use Rattle.subtables.specs.Kept.{KeptWhole}
 use Rattle.rows.specs.Length.{row_of}
 use Rattle.subtables.specs.Written.{columns_from, plan_in}
 use Rattle.subtables.proofs.Lows.{cell_next, low_there}
@@ -49,25 +47,6 @@ module _ {s : List ℕ} {t : Subtable} (o : Opened s t) (small : (i : ℕ) → g
   cells_own size first place (suc n) h =
       let l = h n (omega arith) in
       rw (flat_append, cells_own size first place n (λ k m. h k (omega arith)), append-nil, cell_own size (first + n) l.0 l.1, l.2, suc-mul, take-add, drop-drop)
-
--- `a != b` does not hold
-pub same_flag : (a b : Bool) → not (beq a b) ≡ false → a ≡ b
-same_flag true true e = refl
-same_flag true false e = absurd (true≢false e)
-same_flag false true e = absurd (true≢false e)
-same_flag false false e = refl
-
--- a loop over the kept columns
-pub own_none : (w : List ℕ) (wide : ℕ) → Own w wide 0
-own_none w wide = record { each = λ j h. absurd (omega arith) }
-
-pub own_more : {w : List ℕ} {wide n c : ℕ} → Own w wide n → c ≡ column_in w wide n → c ≡ n → Own w wide (n + 1)
-own_more {n = n} o e f = record {
-  each = λ j h. elim (dec_lt j n) [
-    | yes l ↦ o.each j l
-    | no l ↦ (let q : j ≡ n = omega arith in rw q (sym e ∙ f))
-  ];
-}
 
 -- where a column's cell stands, and its size
 word_cell : (is_long : Bool) (words c : ℕ) → c < words → (cell_size is_long words c ≡ word_size is_long) × (cell_at is_long words c ≡ c * word_size is_long)

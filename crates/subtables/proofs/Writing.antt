@@ -1,11 +1,13 @@
 -- Laws of the writers, each for its part of the output: cells, a row, rows, region indexes, the header.
 use Prim.Native.Nat.{ℕ, ◌+◌, ◌*◌, ◌-◌, ◌≤◌, ◌<◌}
 use mathlib.Core.Path.{◌≡◌, refl, ap, ◌∙◌}
-use mathlib.Core.Bool.{Bool, true, false}
+use mathlib.Core.Bool.{true}
 use mathlib.Core.List.{List, [], ◌++◌}
+use native.Mathlib.Nat.{add-sub_cancel_left}
 use native.Mathlib.Omega.{arith}
-use lib.ListN.{length, get_or, length-append}
-use borrow.Rule.Slice.PartMut.{put_mid}
+use lib.ListN.{length, get_or, drop, length-append, length-take}
+use lib.Seq.{get_or-take, get_or-drop}
+use borrow.Rule.Slice.PartMut.{put_mid, mid_len}
 use mir.Val.{of_z}
 use mir.Syntax.{w32}
 use Rattle.lists.specs.Gather.{tab, flat, gather, rank}
@@ -17,31 +19,20 @@ use Rattle.lists.proofs.Places.{place-select}
 use Rattle.lists.proofs.Laid.{Laid}
 use Rattle.lists.proofs.Evenly.{even_room, even_more, even_all}
 use Rattle.cells.specs.Be.{be_bytes, Wrote}
-use Rattle.cells.specs.Sign.{signed_bytes, Size}
+use Rattle.cells.specs.Sign.{signed_bytes}
 use Rattle.cells.proofs.Cells.{length-be_bytes, wrote_cat}
 use Rattle.bits.specs.Bits.{has}
 use Rattle.opentype.specs.Store.{region_count}
-use Rattle.opentype.specs.Subtable.{word_size, rest_size, cell_size, region_index, delta}
+use Rattle.opentype.specs.Subtable.{word_size, rest_size, region_index, delta}
 use Rattle.rules.specs.Lists.{inner}
 use Rattle.rules.specs.Regions.{new_region}
 use Rattle.rules.specs.Rewrite.{row_bytes}
 use Rattle.laws.specs.Lengths.{length_cells as lengths}
-use Rattle.readers.specs.declared.subtable.Subtable.{Subtable}
 use Rattle.rows.specs.declared.Columns.{Columns}
-use Rattle.rows.specs.Area.{column_in, columns_in, used_in, used_of}
-use Rattle.subtables.specs.Kept.{Named, Fitting}
+use Rattle.rows.specs.Area.{part, column_in, columns_in, used_in, used_of}
+use Rattle.subtables.specs.Kept.{Named}
 use Rattle.rows.specs.Length.{row_of}
 use Rattle.subtables.specs.Written.{columns_from, items_in, plan_in, cells_of, indexes_of}
-
--- ---- sizes
-
-pub word_is : (long : Bool) {n : ℕ} → n ≡ word_size long → Size n
-word_is true e = record { low = omega arith; high = omega arith; even = λ z. omega arith }
-word_is false e = record { low = omega arith; high = omega arith; even = λ z. omega arith }
-
-pub rest_is : (long : Bool) {n : ℕ} → n ≡ rest_size long → Size n
-rest_is true e = record { low = omega arith; high = omega arith; even = λ z. omega arith }
-rest_is false e = record { low = omega arith; high = omega arith; even = λ z. omega arith }
 
 -- ---- the header: three cells of 2 bytes
 
@@ -52,11 +43,6 @@ three_laid {l} {xs = xs} {ys} {zs} p q r a b c h =
     w.is ∙ sets_all (xs ++ ys ++ zs) l (rw (length-append, length-append) (omega arith))
 
 -- ---- the cells of an item in some kept columns
-
--- c is one of them
-pub fitting_at : {t : Subtable} {w : List ℕ} {wide first count size k c : ℕ} → Fitting t w wide first count size → k < count → c ≡ column_in w wide (first + k)
-    → (c < t.columns) × (size ≤ cell_size t.long t.words c)
-fitting_at {k = k} f h e = rw e (f.there k h, f.holds k h)
 
 module _ (s : List ℕ) (at item size : ℕ) (w : List ℕ) (wide first : ℕ) where
   abbrev pub cell_in : ℕ → List ℕ
@@ -75,10 +61,12 @@ module _ (s : List ℕ) (at item size : ℕ) (w : List ℕ) (wide first : ℕ) w
   cells_room n = even_room cell size length-cell column n
 
   -- v has the low bytes of the delta in the next column, c
-  pub cells_more : {old out out' : List ℕ} {k pos c : ℕ} (v : ℕ) → Laid cell_in old k pos out → pos + size ≤ length old
-      → Wrote out pos (be_bytes size v) out' → be_bytes size v ≡ signed_bytes size (delta s at item c) → c ≡ column_in w wide (first + k)
-      → Laid cell_in old (k + 1) (pos + size) out'
-  cells_more v l h p e q = even_more cell size length-cell column l h (p.is ∙ rw (e, q))
+  pub cells_more : {old out out' : List ℕ} {k c : ℕ} (v : ℕ) → Laid cell_in old k (k * size) out → k * size + size ≤ length old
+      → Wrote out (k * size) (be_bytes size v) out' → be_bytes size v ≡ signed_bytes size (delta s at item c) → c ≡ column_in w wide (first + k)
+      → Laid cell_in old (k + 1) ((k + 1) * size) out'
+  cells_more {k = k} v l h p e q =
+      let next : (k + 1) * size ≡ k * size + size = omega arith in
+      rw next (even_more cell size length-cell column l h (p.is ∙ rw (e, q)))
 
   pub cells_all : {old out : List ℕ} {k pos : ℕ} (n : ℕ) → Laid cell_in old k pos out → k ≡ n → length old ≡ n * size
       → out ≡ cells_of s at item size (columns_from w wide first n)
@@ -129,6 +117,14 @@ module _ (s : List ℕ) (at : ℕ) (w : List ℕ) (p : Columns) (from : ℕ) whe
   abbrev item : ℕ → ℕ
   item k = inner (get_or w (from + k) 0)
 
+  -- the pairs that the items are of
+  pub pairs_length : (n : ℕ) → from + n ≤ length w → length (part w from (from + n)) ≡ n
+  pairs_length n h = mid_len from (from + n) w h ∙ add-sub_cancel_left from n
+
+  pub row_at : (n k : ℕ) → k < length (part w from (from + n)) → row_bytes s at (plan_in w p) (inner (get_or (part w from (from + n)) k 0)) ≡ row_in k
+  row_at n k h = let l : k < from + n - from = omega (arith, length-take (from + n - from) (drop from w)) in
+      rw (get_or-take (from + n - from) (drop from w) k 0 l, get_or-drop from w k 0)
+
   length_item : (i : ℕ) → length (row i) ≡ row_of p
   length_item i = length-row s at i w p
 
@@ -171,13 +167,14 @@ module _ (s : List ℕ) (at : ℕ) (w : List ℕ) (wide : ℕ) where
   indexes_room n = even_room index 2 length_index place n
 
   -- the next column, c, names region r, of which v used ones are below
-  pub indexes_more : {old out out' : List ℕ} {j pos c r : ℕ} (v : ℕ) → Laid index_in old j pos out → pos + 2 ≤ length old
-      → Wrote out pos (be_bytes 2 v) out' → v ≡ rank (has (used_in w)) r → r ≡ region_index s at c → c ≡ column_in w wide j
-      → r < region_count s → has (used_in w) r ≡ true → Laid index_in old (j + 1) (pos + 2) out'
+  pub indexes_more : {old out out' : List ℕ} {j c r : ℕ} (v : ℕ) → Laid index_in old j (2 * j) out → 2 * j + 2 ≤ length old
+      → Wrote out (2 * j) (be_bytes 2 v) out' → v ≡ rank (has (used_in w)) r → r ≡ region_index s at c → c ≡ column_in w wide j
+      → r < region_count s → has (used_in w) r ≡ true → Laid index_in old (j + 1) (2 * (j + 1)) out'
   unfolding new_region
   indexes_more {j = j} {r = r} v l h p e f g a b =
       let q : r ≡ region_index s at (column_in w wide j) = f ∙ ap (region_index s at) g in
-      even_more index 2 length_index place l h (p.is ∙ rw (e, ← q, place-select (has (used_in w)) r (region_count s) a b))
+      let next : 2 * (j + 1) ≡ 2 * j + 2 = omega arith in
+      rw next (even_more index 2 length_index place l h (p.is ∙ rw (e, ← q, place-select (has (used_in w)) r (region_count s) a b)))
 
   pub indexes_all : {old out : List ℕ} {j pos : ℕ} (narrow : ℕ) → Laid index_in old j pos out → j ≡ wide + narrow → length old ≡ (wide + narrow) * 2
       → out ≡ indexes_of s at (used_of s w) (columns_in w wide narrow)

@@ -44,13 +44,9 @@ fn put_cells(
     requires out_len { length out.old ≡ count * size }
     ensures { out.new ≡ cells_of s.now t.at item size (columns_from work.now wide first count) }
 {
-    let mut at = 0;
-    let mut k = 0;
-    while k < count {
+    for k in 0..count {
         let column = column_at(work, wide, first + k);
-        cells::put_entry(out, at, size, low_of(s, t, item, column, size));
-        at += size;
-        k += 1;
+        cells::put_entry(out, k * size, size, low_of(s, t, item, column, size));
     }
 }
 
@@ -123,12 +119,10 @@ pub fn put_items(
 {
     let row = row_length(p);
     let mut at = 0;
-    let mut k = 0;
-    while k < items {
-        let item = (work[from + k] % 65536) as usize;
+    for &pair in &work[from..from + items] {
+        let item = (pair % 65536) as usize;
         let end = at + row;
         put_row(&mut out[at..end], work, s, t, p, item);
         at = end;
-        k += 1;
     }
 }

@@ -54,16 +54,10 @@ fn put_regions(out: &mut [u8], work: &[u32], s: &[u8], t: Subtable, p: Columns)
     requires out_len { length out.old ≡ (p.wide + p.narrow) * 2 }
     ensures { out.new ≡ indexes_of s.now t.at (used_of s.now work.now) (columns_in work.now p.wide p.narrow) }
 {
-    let wide = p.wide;
-    let kept = p.wide + p.narrow;
-    let mut at = 0;
-    let mut j = 0;
-    while j < kept {
-        let r = region_index(s, t, column_at(work, wide, j)) as usize;
+    for j in 0..p.wide + p.narrow {
+        let r = region_index(s, t, column_at(work, p.wide, j)) as usize;
         let new = bits::rank_below(&work[8704..8832], r);
-        cells::put_u16(out, at, new as u32);
-        at += 2;
-        j += 1;
+        cells::put_u16(out, 2 * j, new as u32);
     }
 }
 
@@ -72,7 +66,7 @@ fn word_field(p: Columns) -> u32
     ensures { result ≡ pick p.long 0x8000 0 + p.wide }
 {
     let wide = p.wide as u32;
-    if p.long { 32768 + wide } else { wide }
+    if p.long { 0x8000 + wide } else { wide }
 }
 
 fn put_header(out: &mut [u8], p: Columns, items: usize)

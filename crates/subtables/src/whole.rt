@@ -3,7 +3,7 @@ ghost use Rattle.std.specs.Prelude.{◌+◌, ◌*◌, ◌≤◌, ◌≡◌, true
 ghost use Rattle.lists.specs.Gather.{flat};
 ghost use Rattle.rules.specs.Rewrite.{row_bytes};
 ghost use Rattle.readers.specs.Opened.{Opened};
-ghost use Rattle.subtables.specs.Kept.{Fitted, KeptWhole};
+ghost use Rattle.subtables.specs.Kept.{Fitted, Own, KeptWhole};
 ghost use Rattle.subtables.specs.Written.{items_in, plan_in};
 
 use crate::by_cell::put_row;
@@ -11,30 +11,23 @@ use copies::copy_ahead;
 use readers::subtable::Subtable;
 use rows::{Columns, column_at};
 
+// Whether the first columns are kept where they stand.
+fn is_own(work: &[u32], wide: usize, columns: usize) -> bool
+    requires { (length work.now ≡ 16384) × (columns ≤ 4096) }
+    ensures { result ≡ true → Own work.now wide columns }
+{
+    (0..columns).all(|j| column_at(work, wide, j) == j)
+}
+
 // Whether every column is kept where it stands, in a cell of its old size: then each written row is one of the source.
 pub fn is_whole(work: &[u32], t: Subtable, p: Columns) -> bool
     requires { (length work.now ≡ 16384) × (p.wide + p.narrow ≤ 4096) × (t.columns ≤ 4096) }
     ensures { result ≡ true → KeptWhole t work.now p }
 {
-    if p.long != t.long {
-        return false;
-    }
-    if p.wide != t.words {
-        return false;
-    }
-    if p.wide + p.narrow != t.columns {
-        return false;
-    }
-    let wide = p.wide;
-    let columns = t.columns;
-    let mut j = 0;
-    while j < columns {
-        if column_at(work, wide, j) != j {
-            return false;
-        }
-        j += 1;
-    }
-    true
+    p.long == t.long
+        && p.wide == t.words
+        && p.wide + p.narrow == t.columns
+        && is_own(work, p.wide, t.columns)
 }
 
 // Writes the row of an item to the front of the output. What lies behind it there is not promised: the rows to come are written over it.
@@ -48,11 +41,10 @@ fn put_item(out: &mut [u8], work: &[u32], s: &[u8], t: Subtable, p: Columns, ite
     let row = t.row;
     if item < t.items {
         let at = t.rows + item * row;
-        let end = s.len();
-        copy_ahead(out, &s[at..end], row);
-        return;
+        copy_ahead(out, &s[at..], row);
+    } else {
+        put_row(&mut out[0..row], work, s, t, p, item);
     }
-    put_row(&mut out[0..row], work, s, t, p, item);
 }
 
 // Writes the rows of the items of so many pairs, from one on.
@@ -72,13 +64,10 @@ pub fn put_items(
     ensures { out.new ≡ flat (λ i. row_bytes s.now t.at (plan_in work.now p) i) (items_in work.now from items) }
 {
     let row = t.row;
-    let end = out.len();
     let mut at = 0;
-    let mut k = 0;
-    while k < items {
-        let item = (work[from + k] % 65536) as usize;
-        put_item(&mut out[at..end], work, s, t, p, item);
+    for &pair in &work[from..from + items] {
+        let item = (pair % 65536) as usize;
+        put_item(&mut out[at..], work, s, t, p, item);
         at += row;
-        k += 1;
     }
 }

@@ -6,18 +6,17 @@ use lib.ListN.{length, take}
 use borrow.Author.Rules.{rules}
 use Rattle.rules.specs.Lists.{outers_fall}
 use Rattle.lists.proofs.Cuts.{front_same}
-use Rattle.measure.proofs.Steps.{turn_first, turn_refused, turn_few, turn_more, turn_end}
+use Rattle.measure.proofs.Steps.{Nothing, turn_first, turn_refused, turn_few, turn_more, turn_end}
 use Rattle.measure.proofs.measure_runs.Goals as goal
 
 pub loop-at-init : goal.loop-at-init
-loop-at-init c = (search rules, search rules, turn_first _ _ _ c.requires.none_used.0)
+loop-at-init c = let h = c.default-m.ensures in
+    let none : Nothing c.default-m.result = record { count = h.0; length = h.1.0; live = h.1.1.0; index = h.1.1.1.0; middle = h.1.1.1.1 } in
+    (search rules, search rules, turn_first _ _ _ none c.requires.none_used.0)
 
 pub end_of_run-end-requires-clause-pairs_value : goal.end_of_run-end-requires-clause-pairs_value
 end_of_run-end-requires-clause-pairs_value c = let l = c.loop-at in
     rw (front_same l.work c.args.work.now 8704 l.invariant.1 c.args.n (omega arith)) c.requires.none_used.1
-
-pub overflow_cast-work : goal.overflow_cast-work
-overflow_cast-work c = omega (arith, c.type_inv.work c.loop-at.at)
 
 pub returns-in-Refused-clause-measuring : goal.returns-in-Refused-clause-measuring
 returns-in-Refused-clause-measuring c = let l = c.loop-at in
@@ -25,14 +24,6 @@ returns-in-Refused-clause-measuring c = let l = c.loop-at in
     let e = front_same l.work c.args.work.now 8704 l.invariant.1 n (omega arith) in
     let u = rw c.in-Refused.is at c.open_subtable.ensures in
     rw e at (turn_refused (omega arith) l.invariant.2 c.end_of_run-end.ensures u)
-
-pub measure_run-m-requires-clause-from_le_to : goal.measure_run-m-requires-clause-from_le_to
-measure_run-m-requires-clause-from_le_to c = let e = c.end_of_run-end.ensures in
-    (omega (arith, e.one.after), omega (arith, e.inside))
-
-pub measure_run-m-requires-clause-opened : goal.measure_run-m-requires-clause-opened
-measure_run-m-requires-clause-opened c = let u = rw c.in-Open.is at c.open_subtable.ensures in
-    u.whole.opened
 
 pub measure_run-m-requires-clause-fits : goal.measure_run-m-requires-clause-fits
 measure_run-m-requires-clause-fits c = let l = c.loop-at in

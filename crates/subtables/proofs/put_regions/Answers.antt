@@ -1,4 +1,4 @@
-use Prim.Native.Nat.{◌+◌, ◌<◌, ◌≤◌}
+use Prim.Native.Nat.{◌+◌, ◌*◌, ◌<◌, ◌≤◌}
 use native.Mathlib.Omega.{arith}
 use mathlib.Core.Path.{◌≡◌}
 use mathlib.Core.Bool.{true}
@@ -13,10 +13,10 @@ use Rattle.subtables.proofs.put_regions.Goals as goal
 use Rattle.subtables.proofs.put_regions.Goals.{After-region_index-r, In-loop-j}
 
 -- the next index ends inside
-turn : (c : In-loop-j) → c.loop-j.at + 2 ≤ length c.args.out.now
+turn : (c : In-loop-j) → 2 * c.loop-j.j + 2 ≤ length c.args.out.now
 turn c =
     let a = c.args in
-    indexes_room a.s.now a.t.at a.work.now a.p.wide (a.p.wide + a.p.narrow) c.loop-j.invariant.1 c.loop-j-test.true (search rules)
+    indexes_room a.s.now a.t.at a.work.now a.p.wide (a.p.wide + a.p.narrow) c.loop-j.invariant c.loop-j-test.true (search rules)
 
 -- the region is there and marked
 named : (c : After-region_index-r) → let a = c.args in
@@ -24,28 +24,14 @@ named : (c : After-region_index-r) → let a = c.args in
 named c = names c.requires.named.0 c.loop-j-test.true c.column_at.ensures c.region_index-r.ensures.value
 
 pub loop-j-init : goal.loop-j-init
-loop-j-init c = (search rules, laid_none _ _)
-
-pub region_index-r-requires-clause-column_lt_columns : goal.region_index-r-requires-clause-column_lt_columns
-region_index-r-requires-clause-column_lt_columns c = omega (arith, c.requires.inside.each c.loop-j.j c.loop-j-test.true, c.column_at.ensures)
-
-pub rank_below-new-requires : goal.rank_below-new-requires
-rank_below-new-requires c = omega (arith, (named (goal.at.rank_below-new-requires c).After-region_index-r).0)
-
-pub put_u16-requires : goal.put_u16-requires
-put_u16-requires c = omega (arith, turn (goal.at.put_u16-requires c).In-loop-j)
-
-pub overflow_add-at : goal.overflow_add-at
-overflow_add-at c = omega (arith, turn (goal.at.overflow_add-at c).In-loop-j)
+loop-j-init c = laid_none _ _
 
 pub loop-j-preserved : goal.loop-j-preserved
 loop-j-preserved c = let a = c.args in
-    let n = named (goal.at.loop-j-preserved c).After-region_index-r in (
-      omega arith,
-      indexes_more a.s.now a.t.at a.work.now a.p.wide _ c.loop-j.invariant.1 (turn (goal.at.loop-j-preserved c).In-loop-j) c.put_u16.ensures
-          c.rank_below-new.ensures.value c.region_index-r.ensures.value c.column_at.ensures n.0 n.1,
-    )
+    let n = named (goal.at.loop-j-preserved c).After-region_index-r in
+    indexes_more a.s.now a.t.at a.work.now a.p.wide _ c.loop-j.invariant (turn (goal.at.loop-j-preserved c).In-loop-j) c.put_u16.ensures
+    c.rank_below-new.ensures.value c.region_index-r.ensures.value c.column_at.ensures n.0 n.1
 
 pub returns : goal.returns
 returns c = let a = c.args in
-    indexes_all a.s.now a.t.at a.work.now a.p.wide a.p.narrow c.loop-j.invariant.1 (omega arith) (search rules)
+    indexes_all a.s.now a.t.at a.work.now a.p.wide a.p.narrow c.loop-j.invariant (omega arith) (search rules)

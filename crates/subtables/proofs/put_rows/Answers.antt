@@ -1,12 +1,7 @@
 use mathlib.Core.Path.{ap, sym, ◌∙◌}
 use Prim.Native.Nat.{◌*◌}
-use borrow.Author.Rules.{rules}
 use Rattle.subtables.proofs.Wholes.{whole_row}
 use Rattle.subtables.proofs.put_rows.Goals as goal
-
-pub put_items-requires-clause-fitted : goal.put_items-requires-clause-fitted
-put_items-requires-clause-fitted c = let whole = c.is_whole.ensures c.if-is_whole.true in
-    (search rules, whole)
 
 pub put_items-requires-clause-out_len : goal.put_items-requires-clause-out_len
 put_items-requires-clause-out_len c = let whole = c.is_whole.ensures c.if-is_whole.true in

@@ -2,7 +2,7 @@ use Prim.Native.Nat.{◌+◌, ◌*◌, ◌-◌}
 use mathlib.Core.Path.{◌≡◌, sym}
 use native.Mathlib.Omega.{arith}
 use lib.ListN.{length}
-use Rattle.rows.specs.Length.{row_of, planned_length}
+use Rattle.rows.specs.Length.{planned_length}
 use Rattle.rows.proofs.Plans.{planned_inside}
 use Rattle.subtables.proofs.Fits.{planned_fitted}
 use Rattle.subtables.proofs.Subtables.{subtable_laid}
@@ -16,15 +16,6 @@ whole : (c : After-row_length) → let a = c.args in
 unfolding planned_length
 whole c = rw c.row_length.ensures.value (sym c.requires.out_len)
 
-rows : (c : After-row_length) → let a = c.args in (a.to - a.from) * c.row_length.result ≡ (a.to - a.from) * row_of a.p
-rows c = rw c.row_length.ensures.value
-
-pub overflow_mul-end : goal.overflow_mul-end
-overflow_mul-end c = omega (arith, whole c)
-
-pub overflow_add-end : goal.overflow_add-end
-overflow_add-end c = omega (arith, whole c)
-
 pub slice_bounds-put_header-end : goal.slice_bounds-put_header-end
 slice_bounds-put_header-end c = omega (arith, whole c)
 
@@ -34,17 +25,11 @@ slice_bounds-put_regions-end c = omega (arith, whole (goal.at.slice_bounds-put_r
 pub put_regions-requires-clause-inside : goal.put_regions-requires-clause-inside
 put_regions-requires-clause-inside c = planned_inside c.requires.planned
 
-pub put_regions-requires-clause-out_len : goal.put_regions-requires-clause-out_len
-put_regions-requires-clause-out_len c = omega (arith, whole (goal.at.put_regions-requires-clause-out_len c).After-row_length)
-
 pub slice_bounds-put_rows-end : goal.slice_bounds-put_rows-end
 slice_bounds-put_rows-end c = omega (arith, whole (goal.at.slice_bounds-put_rows-end c).After-row_length)
 
 pub put_rows-requires-clause-fitted : goal.put_rows-requires-clause-fitted
 put_rows-requires-clause-fitted c = planned_fitted c.requires.opened c.requires.planned
-
-pub put_rows-requires-clause-out_len : goal.put_rows-requires-clause-out_len
-put_rows-requires-clause-out_len c = omega (arith, whole (goal.at.put_rows-requires-clause-out_len c).After-row_length, rows (goal.at.put_rows-requires-clause-out_len c).After-row_length)
 
 pub returns : goal.returns
 returns c = subtable_laid c.args.out.now c.requires.planned (search rules) (search rules) c.row_length.ensures.value c.requires.out_len

@@ -14,12 +14,6 @@ inside c = low_ends c.requires.opened _ _ c.args.size c.if-t-item.false c.requir
 pub returns-then-t-item : goal.returns-then-t-item
 returns-then-t-item c = low_no_item c.requires.opened _ _ _ c.if-t-item.true
 
-pub overflow_mul-end : goal.overflow_mul-end
-overflow_mul-end c = omega (arith, inside (goal.at.overflow_mul-end c).Else-t-item)
-
-pub overflow_add-end : goal.overflow_add-end
-overflow_add-end c = omega (arith, inside (goal.at.overflow_add-end c).Else-t-item)
-
 pub overflow_add-end-2 : goal.overflow_add-end-2
 overflow_add-end-2 c = omega (arith, inside (goal.at.overflow_add-end-2 c).Else-t-item)
 

@@ -1,39 +1,27 @@
-use Prim.Native.Nat.{◌+◌, ◌≤◌}
+use Prim.Native.Nat.{◌+◌, ◌*◌, ◌≤◌}
+use native.Mathlib.Nat.{zero-mul}
 use native.Mathlib.Omega.{arith}
 use lib.ListN.{length}
 use borrow.Author.Rules.{rules}
 use Rattle.lists.proofs.Laid.{laid_none}
-use Rattle.subtables.proofs.Writing.{fitting_at, cells_room, cells_more, cells_all}
+use Rattle.subtables.proofs.Writing.{cells_room, cells_more, cells_all}
 use Rattle.subtables.proofs.by_cell.put_cells.Goals as goal
 use Rattle.subtables.proofs.by_cell.put_cells.Goals.{In-loop-k}
 
 -- the next cell ends inside
-turn : (c : In-loop-k) → c.loop-k.at + c.args.size ≤ length c.args.out.now
+turn : (c : In-loop-k) → c.loop-k.k * c.args.size + c.args.size ≤ length c.args.out.now
 turn c =
     let a = c.args in
-    cells_room a.s.now a.t.at a.item a.size a.work.now a.wide a.first a.count c.loop-k.invariant.1 c.loop-k-test.true (search rules)
+    cells_room a.s.now a.t.at a.item a.size a.work.now a.wide a.first a.count c.loop-k.invariant c.loop-k-test.true (search rules)
 
 pub loop-k-init : goal.loop-k-init
-loop-k-init c = (search rules, laid_none _ _)
-
-pub low_of-requires-clause-column_lt_columns : goal.low_of-requires-clause-column_lt_columns
-low_of-requires-clause-column_lt_columns c = let f = fitting_at c.requires.fitting (omega (arith, c.loop-k-test.true)) c.column_at-column.ensures in
-    (f.0, search rules, f.1)
-
-pub put_entry-requires-clause-size_in_bounds : goal.put_entry-requires-clause-size_in_bounds
-put_entry-requires-clause-size_in_bounds c = omega (arith, turn (goal.at.put_entry-requires-clause-size_in_bounds c).In-loop-k)
-
-pub overflow_add-at : goal.overflow_add-at
-overflow_add-at c = omega (arith, turn (goal.at.overflow_add-at c).In-loop-k)
+loop-k-init c = rw zero-mul (laid_none _ _)
 
 pub loop-k-preserved : goal.loop-k-preserved
-loop-k-preserved c = let l = c.loop-k in
-    let a = c.args in (
-      omega arith,
-      cells_more a.s.now a.t.at a.item a.size a.work.now a.wide a.first _ l.invariant.1 (turn (goal.at.loop-k-preserved c).In-loop-k) c.put_entry.ensures
-          c.low_of.ensures c.column_at-column.ensures,
-    )
+loop-k-preserved c = let a = c.args in
+    cells_more a.s.now a.t.at a.item a.size a.work.now a.wide a.first _ c.loop-k.invariant (turn (goal.at.loop-k-preserved c).In-loop-k) c.put_entry.ensures
+    c.low_of.ensures c.column_at-column.ensures
 
 pub returns : goal.returns
 returns c = let a = c.args in
-    cells_all a.s.now a.t.at a.item a.size a.work.now a.wide a.first a.count c.loop-k.invariant.1 (omega arith) (search rules)
+    cells_all a.s.now a.t.at a.item a.size a.work.now a.wide a.first a.count c.loop-k.invariant (omega arith) (search rules)
