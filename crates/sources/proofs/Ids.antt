@@ -1,36 +1,37 @@
--- New ids that rise, in what is left of a glyph list.
-use Prim.Native.Nat.{ℕ, ◌+◌, ◌<◌, ◌≤◌}
-use mathlib.Core.Path.{◌≡◌, refl, sym, ◌∙◌}
-use mathlib.Core.Bool.{true, false}
+-- New ids that rise.
+use Prim.Native.Nat.{ℕ, zero, suc, ◌+◌, ◌<◌, ◌≤◌}
+use mathlib.Core.Path.{◌≡◌, refl, sym}
+use mathlib.Core.Bool.{Bool, true, false, not}
 use mathlib.Core.List.{List, [], ◌∷◌}
-use native.Mathlib.Numerals.{add-one}
 use native.Mathlib.Omega.{arith}
-use lib.Dec.{leb}
-use lib.ListN.{length, get_or, drop, length-drop}
-use lib.Seq.{drop-cons}
-use borrow.Author.Tests.{le-leb, lt-leb}
+use lib.Dec.{leb, ltb}
+use lib.ListN.{length, get_or}
+use borrow.Author.Tests.{le-leb, lt-leb, ltb-true, ltb-false}
+use Rattle.std.specs.List.{IsAllAdjacentAnswer}
 use Rattle.lists.specs.Pick.{pick}
 use Rattle.rules.specs.Lists.{new_id, new_ids_stay}
 
-module _ (es : List ℕ) (i : ℕ) (left : new_ids_stay (drop i es) ≡ new_ids_stay es) where
-  two : i + 1 < length es → new_ids_stay es ≡ pick (leb (new_id (get_or es (i + 1) 0)) (new_id (get_or es i 0))) true (new_ids_stay (drop (i + 1) es))
-  unfolding new_ids_stay
-  two h =
-      let a : drop i es ≡ get_or es i 0 ∷ drop (i + 1) es = rw add-one (drop-cons es i 0 (omega arith)) in
-      let b = drop-cons es (i + 1) 0 h in
-      sym left ∙ rw (a, b)
+-- each is followed by a higher one
+all_rise : (es : List ℕ) → ((k j : ℕ) → j ≡ k + 1 → j < length es → new_id (get_or es k 0) < new_id (get_or es j 0)) → new_ids_stay es ≡ false
+unfolding new_ids_stay
+all_rise [] h = refl
+all_rise (d ∷ []) h = refl
+all_rise (d ∷ e ∷ es) h = rw (lt-leb (new_id e) (new_id d) (h 0 1 refl (omega arith))) (all_rise (e ∷ es) (λ k j q l. h (suc k) (suc j) (omega arith) (omega arith)))
 
-  pub ids_more : i + 1 < length es → new_id (get_or es i 0) < new_id (get_or es (i + 1) 0) → new_ids_stay (drop (i + 1) es) ≡ new_ids_stay es
-  ids_more h l = sym (two h ∙ rw (lt-leb (new_id (get_or es (i + 1) 0)) (new_id (get_or es i 0)) l))
+-- one is not
+one_stays : (es : List ℕ) (k j : ℕ) → j ≡ k + 1 → j < length es → new_id (get_or es j 0) ≤ new_id (get_or es k 0) → new_ids_stay es ≡ true
+unfolding new_ids_stay
+one_stays [] k j q l h = absurd (omega arith)
+one_stays (d ∷ []) k j q l h = absurd (omega arith)
+one_stays (d ∷ e ∷ es) k zero q l h = absurd (omega arith)
+one_stays (d ∷ e ∷ es) zero (suc zero) q l h = rw (le-leb (new_id e) (new_id d) h)
+one_stays (d ∷ e ∷ es) zero (suc (suc j)) q l h = absurd (omega arith)
+one_stays (d ∷ e ∷ es) (suc k) (suc j) q l h = rw (one_stays (e ∷ es) k j (omega arith) (omega arith) h) (either (leb (new_id e) (new_id d)))
+  where
+    either : (b : Bool) → pick b true true ≡ true
+    either true = refl
+    either false = refl
 
-  pub ids_found : i + 1 < length es → new_id (get_or es (i + 1) 0) ≤ new_id (get_or es i 0) → new_ids_stay es ≡ true
-  ids_found h l = two h ∙ rw (le-leb (new_id (get_or es (i + 1) 0)) (new_id (get_or es i 0)) l)
-
-  pub ids_end : length es ≤ i + 1 → new_ids_stay es ≡ false
-  unfolding new_ids_stay
-  ids_end h = sym left ∙ short (drop i es) (omega (arith, length-drop i es))
-    where
-      short : (ds : List ℕ) → length ds ≤ 1 → new_ids_stay ds ≡ false
-      short [] k = refl
-      short (d ∷ []) k = refl
-      short (d ∷ e ∷ ds) k = absurd (omega arith)
+pub not_sorted : (es : List ℕ) (r : Bool) → IsAllAdjacentAnswer (λ d e b. b ≡ ltb (new_id d) (new_id e)) es r → not r ≡ new_ids_stay es
+not_sorted es true h = sym (all_rise es (λ k j q l. rw q (ltb-true _ _ (sym (h k 0 (rw q at l))))))
+not_sorted es false h = sym (one_stays es h.0 (h.0 + 1) refl h.1 (ltb-false _ _ (sym (h.2 0))))

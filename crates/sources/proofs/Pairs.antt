@@ -8,7 +8,6 @@ use native.Mathlib.Numerals.{add-one}
 use lib.Pow.{pow_mono, pow_pos}
 use native.Mathlib.Omega.{arith}
 use lib.Dec.{leb, eqb}
-use borrow.Author.Tests.{le-leb, lt-leb}
 use Rattle.lists.specs.Pick.{pick, both, differ, differ_yes, differ_no}
 use Rattle.lists.specs.Gather.{flat, select}
 use Rattle.lists.specs.Search.{any, some}
@@ -48,11 +47,8 @@ inner_narrow t at g e h = omega (arith, mod-lt (entry t at g) (pow_pos (inner_bi
 pub outer_is : {pair : ℕ} {p : Pair} → Paired pair p → outer pair ≡ p.outer
 outer_is {pair} p = omega (arith, p.is, p.small)
 
-pub is_past : {pair count : ℕ} {p : Pair} → Paired pair p → count ≤ p.outer → leb count (outer pair) ≡ true
-is_past {pair} {count} p h = rw (outer_is p) (le-leb count _ h)
-
-pub not_past : {pair count : ℕ} {p : Pair} → Paired pair p → p.outer < count → leb count (outer pair) ≡ false
-not_past {pair} {count} p h = rw (outer_is p) (lt-leb count _ h)
+pub past_is : (count : ℕ) {pair : ℕ} {p : Pair} → Paired pair p → leb count p.outer ≡ leb count (outer pair)
+past_is count p = rw (outer_is p)
 
 -- ---- the map that gives them
 

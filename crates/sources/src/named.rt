@@ -16,10 +16,7 @@ fn bad_source(t: &[u8], m: usize) -> bool
     ensures { result ≡ both (present t.now m) (bad_map t.now (map_at t.now m)) }
 {
     let at = cells::u32_at(t, 8 + 4 * m) as usize;
-    if at == 0 {
-        return false;
-    }
-    bad_map(t, at)
+    at != 0 && bad_map(t, at)
 }
 
 // 12
@@ -27,14 +24,7 @@ pub fn bad_maps(t: &[u8], maps: usize) -> bool
     requires { 8 + 4 * maps ≤ length t.now }
     ensures { result ≡ bad_maps maps t.now }
 {
-    let mut m = 0;
-    while m < maps {
-        if bad_source(t, m) {
-            return true;
-        }
-        m += 1;
-    }
-    false
+    (0..maps).any(|m| bad_source(t, m))
 }
 
 // The map m of a table, opened; an absent one has the place 0.
@@ -60,10 +50,7 @@ pub fn source_of(t: &[u8], m: usize) -> Map
 pub fn counts(m: usize, at: usize) -> bool
     ensures { result ≡ pick (eqb m 0) true (differ at 0) }
 {
-    if m == 0 {
-        return true;
-    }
-    at != 0
+    m == 0 || at != 0
 }
 
 // An absent map's pair is the glyph's own number, in outer 0.
@@ -86,15 +73,7 @@ fn outer_past(t: &[u8], map: Map, glyphs: &[u32], count: u32) -> bool
     requires { Sourced t.now map }
     ensures { result ≡ bad_outer count (pairs_at t.now map.at glyphs.now) }
 {
-    let mut i = 0;
-    while i < glyphs.len() {
-        let p = glyph_pair(t, map, (glyphs[i] % 65536) as usize);
-        if p.outer >= count {
-            return true;
-        }
-        i += 1;
-    }
-    false
+    glyphs.iter().any(|e| glyph_pair(t, map, (*e % 65536) as usize).outer >= count)
 }
 
 fn past_in(t: &[u8], m: usize, glyphs: &[u32], count: u32) -> bool
@@ -103,10 +82,7 @@ fn past_in(t: &[u8], m: usize, glyphs: &[u32], count: u32) -> bool
     ensures { result ≡ both (countsIn t.now m) (bad_outer count (pairs_at t.now (map_at t.now m) glyphs.now)) }
 {
     let map = source_of(t, m);
-    if counts(m, map.at) {
-        return outer_past(t, map, glyphs, count);
-    }
-    false
+    counts(m, map.at) && outer_past(t, map, glyphs, count)
 }
 
 // 13
@@ -115,12 +91,5 @@ pub fn bad_outers(t: &[u8], maps: usize, glyphs: &[u32], count: u32) -> bool
     requires t_value { bad_maps maps t.now ≡ false }
     ensures { result ≡ bad_outer count (named_pairs maps t.now glyphs.now) }
 {
-    let mut m = 0;
-    while m < maps {
-        if past_in(t, m, glyphs, count) {
-            return true;
-        }
-        m += 1;
-    }
-    false
+    (0..maps).any(|m| past_in(t, m, glyphs, count))
 }

@@ -1,13 +1,10 @@
-use Rattle.sources.proofs.Ids.{ids_more, ids_found, ids_end}
-use mathlib.Core.Path.{sym}
-use native.Mathlib.Omega.{arith}
+use Rattle.std.proofs.Common.{rules, tests}
+use Rattle.std.proofs.lemmas.Fn.{always_returns_same}
+use lib.Dec.{ltb}
+use Rattle.sources.proofs.Ids.{not_sorted}
+use Rattle.rules.specs.Lists.{new_id}
 use Rattle.sources.proofs.glyphs.ids_stay.Goals as goal
 
-pub returns-then-glyphs-i : goal.returns-then-glyphs-i
-returns-then-glyphs-i c = sym (ids_found c.args.glyphs.now c.loop-i.i c.loop-i.invariant.1 (omega arith) (omega (arith, c.if-glyphs-i.true)))
-
-pub loop-i-preserved : goal.loop-i-preserved
-loop-i-preserved c = (omega arith, ids_more _ _ c.loop-i.invariant.1 (omega arith) c.if-glyphs-i.false)
-
 pub returns : goal.returns
-returns c = sym (ids_end _ _ c.loop-i.invariant.1 c.loop-i-test.false)
+returns c =
+    not_sorted c.args.glyphs.now c.is_sorted_by.result (c.is_sorted_by.ensures.cases (λ d e. ltb (new_id d) (new_id e)) (always_returns_same _ _ _ (λ a r f k. search (rules, tests))))

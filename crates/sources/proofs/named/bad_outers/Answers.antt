@@ -1,22 +1,21 @@
+use mathlib.Core.Path.{sym, refl, ◌∙◌}
+use Rattle.std.proofs.Common.{rules, tests}
+use Rattle.std.proofs.lemmas.Iterator.{YieldsList-from_range}
+use Rattle.std.proofs.lemmas.Iterator.Search.{any_from_yields_List}
+use Rattle.lists.specs.Pick.{both}
+use Rattle.lists.proofs.Chains.{some-list_any}
+use Rattle.opentype.specs.Table.{map_at}
+use Rattle.rules.specs.Numbering.{counts, bad_outer}
+use Rattle.sources.specs.Pairs.{pairs_at}
 use Rattle.sources.proofs.Pairs.{named_past, map_good}
-use Rattle.lists.proofs.Left.{some_end}
-use Rattle.lists.proofs.Tests.{some_none, some_more, some_at}
-use mathlib.Core.Path.{◌≡◌, sym, ◌∙◌}
-use native.Mathlib.Omega.{arith}
-use borrow.Author.Rules.{rules}
+use Rattle.std.proofs.iter.Serving.{serving}
 use Rattle.sources.proofs.named.bad_outers.Goals as goal
 
-pub loop-m-init : goal.loop-m-init
-loop-m-init c = (search rules, some_none _)
-
-pub past_in-requires-clause-m_value : goal.past_in-requires-clause-m_value
-past_in-requires-clause-m_value c = map_good _ _ _ c.requires.t_value c.loop-m-test.true
-
-pub returns-then-past_in : goal.returns-then-past_in
-returns-then-past_in c = sym (named_past _ _ _ _ ∙ some_at _ _ _ c.loop-m-test.true (sym c.past_in.ensures ∙ c.if-past_in.true))
-
-pub loop-m-preserved : goal.loop-m-preserved
-loop-m-preserved c = (search rules, some_more _ _ c.loop-m.invariant.1 (sym c.past_in.ensures ∙ c.if-past_in.false))
+pub any-requires-clause-callable : goal.any-requires-clause-callable
+any-requires-clause-callable c = grind (serving, map_good)
 
 pub returns : goal.returns
-returns c = let e : c.loop-m.m ≡ c.args.maps = omega arith in sym (named_past _ _ _ _ ∙ some_end _ _ _ c.loop-m.invariant.1 e)
+returns c =
+    let t = c.args.t.now in
+    any_from_yields_List (λ m. both (counts t m) (bad_outer c.args.count (pairs_at t (map_at t m) c.args.glyphs.now))) _ _ _ c.any.ensures.ran (YieldsList-from_range 0 c.args.maps c.args.maps refl (search rules)) (λ x b q k. search (rules, tests))
+    ∙ sym (named_past _ _ _ _ ∙ some-list_any _ c.args.maps)

@@ -3,10 +3,10 @@ use Rattle.opentype.specs.Table.{map_at}
 use Rattle.lists.specs.Pick.{chain}
 use Rattle.sources.proofs.named.bad_source.Goals as goal
 
-pub returns-then-at-eq0 : goal.returns-then-at-eq0
+pub returns-then-at-ne0 : goal.returns-then-at-ne0
 unfolding present map_at
-returns-then-at-eq0 c = rw (← c.u32_at-at.ensures.is) (search chain)
+returns-then-at-ne0 c = rw (← c.u32_at-at.ensures.is) (search chain)
 
-pub returns : goal.returns
+pub returns-else-at-ne0 : goal.returns-else-at-ne0
 unfolding present map_at
-returns c = rw (← c.u32_at-at.ensures.is) (search chain)
+returns-else-at-ne0 c = rw (← c.u32_at-at.ensures.is) (search chain)

@@ -6,8 +6,5 @@ use Rattle.sources.proofs.named.glyph_pair.Goals as goal
 pub returns-then-map-eq0 : goal.returns-then-map-eq0
 returns-then-map-eq0 c = paired_absent _ _ _ c.if-map-eq0.true refl refl (omega arith)
 
-pub pair_of-requires : goal.pair_of-requires
-pair_of-requires c = c.requires.sourced.opened c.if-map-eq0.false
-
 pub returns : goal.returns
 returns c = paired_present _ _ (c.requires.sourced.opened c.if-map-eq0.false) c.if-map-eq0.false c.pair_of.ensures.outer_value c.pair_of.ensures.inner_value
