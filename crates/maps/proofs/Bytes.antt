@@ -5,7 +5,7 @@ use mathlib.Core.Bool.{true, false}
 use mathlib.Core.List.{List, [], ◌++◌, map}
 use native.Mathlib.Omega.{arith}
 use native.Mathlib.Numerals.{add-one}
-use native.Mathlib.Nat.{lt_of_lt_of_le, mul-le-mul, suc-mul}
+use native.Mathlib.Nat.{lt_of_lt_of_le, suc-mul}
 use lib.Pow.{pow_mono}
 use lib.ListN.{length, get_or}
 use lib.Seq.{length-sets}
@@ -23,7 +23,6 @@ use Rattle.opentype.specs.Table.{map_at}
 use Rattle.rules.specs.Lists.{Run, new_id}
 use Rattle.rules.specs.Numbering.{present, pair_of, new_outer, new_inner}
 use Rattle.rules.specs.Maps.{is_written, map_plan, entry_size, wide_entry, new_entry, planned_map, map_bytes}
-use Rattle.laws.specs.Rows.{row_inside}
 use Rattle.laws.specs.GlyphPairs.{pow_bytes}
 use Rattle.laws.specs.Packed.{map-length}
 use Rattle.rules.specs.Maps.{MapPlan as PlanOf}
@@ -60,12 +59,6 @@ entered_none rs t at es p old r = record {
 }
 
 module _ {rs : List Run} {t : List ℕ} {at : ℕ} {es : List ℕ} {p : MapPlan} {old : List ℕ} {k id to : ℕ} {out : List ℕ} (l : Entered rs t at es p old k id to out) where
-  pub entered_room : id < p.count → length old ≡ 4 + p.count * p.size → to + p.size ≤ length out
-  entered_room h e = omega (arith, row_inside id p.count p.size h, l.up_to, l.same)
-
-  pub entered_fits : id < p.count → p.count ≤ 65535 → p.size ≤ 4 → to + p.size < 2 ^ 64
-  entered_fits h few short = omega (arith, row_inside id p.count p.size h, mul-le-mul few short, l.up_to)
-
   pub entered_more : {v next : ℕ} {new : List ℕ} → Turn (λ g. new_entry p.bits rs (pair_at t at g)) es id v next → Wrote out to (be_bytes p.size v) new
       → Entered rs t at es p old next (id + 1) (to + p.size) new
   entered_more {v} {next} {new} turn w = record {
@@ -74,9 +67,6 @@ module _ {rs : List Run} {t : List ℕ} {at : ℕ} {es : List ℕ} {p : MapPlan}
     wrote = rw gather_more (wrote_cat l.wrote (rw turn.is at w) (rw (gather-length (entry_piece rs t at es p) p.size (λ j. length-be_bytes p.size _) id) l.up_to));
     ahead = turn.ahead;
   }
-
-  pub entered_end : id ≡ p.count → Wrote old 4 (entries_of rs t at es p) out
-  entered_end e = rw e at l.wrote
 
 -- ---- a plan's length, and whether it is too wide
 

@@ -4,7 +4,6 @@ use mathlib.Core.Path.{◌≡◌, refl, sym, ◌∙◌}
 use mathlib.Core.Bool.{Bool, true, false}
 use mathlib.Core.List.{List, [], ◌∷◌}
 use native.Mathlib.Omega.{arith}
-use native.Mathlib.Decide.{ℕ_discrete}
 use native.Mathlib.Nat.{not-suc-le-zero}
 use lib.ListN.{length, get_or}
 use lib.Dec.{eqb}
@@ -19,21 +18,6 @@ use Rattle.rules.specs.Maps.{count_of}
 pub record Alike (pair : ℕ → ℕ) (es : List ℕ) (q i : ℕ) : Type 0 where
   pub inside : i < length es
   pub each : (k : ℕ) → i ≤ k → k < length es → q ≡ pair (old_id (get_or es k 0))
-
-pub alike_last : (pair : ℕ → ℕ) (es : List ℕ) {q : ℕ} → 0 < length es → q ≡ pair (old_id (get_or es (length es - 1) 0)) → Alike pair es q (length es - 1)
-alike_last pair es {q} h e = record {
-  inside = omega arith;
-  each = λ k l g. let s : k ≡ length es - 1 = omega arith in rw s e;
-}
-
-pub alike_more : {pair : ℕ → ℕ} {es : List ℕ} {q i : ℕ} → Alike pair es q i → 0 < i → q ≡ pair (old_id (get_or es (i - 1) 0)) → Alike pair es q (i - 1)
-alike_more {pair} {es} {q} {i} a h e = record {
-  inside = omega (arith, a.inside);
-  each = λ k l g. elim (ℕ_discrete k (i - 1)) [
-    | yes s ↦ rw s e
-    | no s ↦ a.each k (omega arith) g
-  ];
-}
 
 each_all : (f : ℕ → Bool) (xs : List ℕ) → ((k : ℕ) → k < length xs → f (get_or xs k 0) ≡ true) → all f xs ≡ true
 unfolding all

@@ -83,9 +83,6 @@ module _ {w : List ℕ} {n : ℕ} (d : Numbered w n) where
   size : length (take n w) ≡ n
   size = length-take-le n w (omega (arith, d.long, d.few))
 
-  pub limited_none : Limited (take n w) n 0
-  limited_none = record { inside = omega (arith, size); each = λ k l h. absurd (omega (arith, size)) }
-
   -- the pair at a place: its outer, and the start of its run
   at : (k : ℕ) → k < n → get_or (take n w) k 0 ≡ get_or w k 0
   at k h = get_or-take n w k 0 h
@@ -101,9 +98,6 @@ module _ {w : List ℕ} {n : ℕ} (d : Numbered w n) where
 
   pub start_low : (k : ℕ) → k < n → get_or w (8192 + outer (get_or w k 0)) 0 ≤ k
   start_low k h = rw (its_start k h, ← at k h) (start_before (take n w) d.climbs k (omega (arith, size)))
-
-  pub limited_in : {end limit : ℕ} → Limited (take n w) end limit → (end ≤ 8192) × (end ≤ n)
-  limited_in l = (omega (arith, l.inside, size, d.few), omega (arith, l.inside, size))
 
   -- the last pair of a run has the run's largest place
   pub limited_more : {end limit start next : ℕ} → Limited (take n w) end limit → 0 < end → start ≡ get_or w (8192 + outer (get_or w (end - 1) 0)) 0 → start ≤ end - 1

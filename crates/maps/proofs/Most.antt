@@ -1,39 +1,45 @@
 -- The largest number of a list, gathered from its end, and the bits that it takes.
-use Prim.Native.Nat.{ℕ, suc, ◌-◌, ◌^◌, ◌≤◌, ◌<◌, max}
-use mathlib.Core.Path.{◌≡◌, ap, ◌∙◌}
-use mathlib.Core.List.{List, ◌∷◌, map}
+use Prim.Native.Nat.{ℕ, ◌-◌, ◌^◌, ◌≤◌, ◌<◌, max}
+use mathlib.Core.Path.{◌≡◌, refl, sym, ap, ◌∙◌}
+use mathlib.Core.List.{List, [], ◌∷◌, ◌++◌, map, append_assoc, append-nil}
 use native.Mathlib.Nat.{le_refl, lt_of_le_of_lt}
 use native.Mathlib.Omega.{arith}
 use lib.Count.{count_leading_zeros}
-use lib.ListN.{length, get_or, drop, drop_of_length-le}
-use lib.Seq.{drop-cons}
+use lib.ListN.{length}
 use Rattle.lists.specs.Search.{largest}
-use Rattle.lists.proofs.Largest.{largest_left}
 use Rattle.rules.specs.Maps.{bit_length, bits_for}
 use Rattle.laws.specs.Bits.{bits_climb}
 
--- most is the largest from place i on
-pub record Most (f : ℕ → ℕ) (xs : List ℕ) (i most : ℕ) : Type 0 where
-  pub inside : i ≤ length xs
-  pub is : most ≡ largest (map f (drop i xs))
+largest_behind : (f : ℕ → ℕ) (xs ys : List ℕ) → largest (map f ys) ≤ largest (map f (xs ++ ys))
+unfolding largest
+largest_behind f [] ys = le_refl (largest (map f ys))
+largest_behind f (x ∷ xs) ys = omega (arith, largest_behind f xs ys)
+
+-- most is the largest of the elements behind the rest
+pub record Most (f : ℕ → ℕ) (xs rest : List ℕ) (most : ℕ) : Type 0 where
+  pub behind : List ℕ
+  pub all : xs ≡ rest ++ behind
+  pub is : most ≡ largest (map f behind)
 
 module _ {f : ℕ → ℕ} {xs : List ℕ} where
-  pub most_none : Most f xs (length xs) 0
+  pub most_none : {rest : List ℕ} → rest ≡ xs → Most f xs rest 0
   unfolding largest
-  most_none = record { inside = le_refl (length xs); is = rw (drop_of_length-le xs (le_refl (length xs))) }
+  most_none e = record { behind = []; all = sym e ∙ sym (append-nil _); is = refl }
 
-  pub most_more : {i most v : ℕ} → Most f xs i most → 0 < i → v ≡ f (get_or xs (i - 1) 0) → Most f xs (i - 1) (max most v)
-  unfolding largest
-  most_more {i} m h e =
-      let s : suc (i - 1) ≡ i = omega arith in
-      let d = drop-cons xs (i - 1) 0 (omega (arith, m.inside)) ∙ ap (λ (k : ℕ). get_or xs (i - 1) 0 ∷ drop k xs) s in
-      record { inside = omega (arith, m.inside); is = rw d (omega (arith, m.is)) }
+  module _ {rest : List ℕ} {most : ℕ} (m : Most f xs rest most) where
+    all_more : (left : List ℕ) (x : ℕ) → rest ≡ left ++ x ∷ [] → xs ≡ left ++ x ∷ m.behind
+    all_more left x e = m.all ∙ rw e (append_assoc left (x ∷ []) m.behind)
 
-  pub most_under : {i most : ℕ} → Most f xs i most → most ≤ largest (map f xs)
-  most_under {i} m = omega (arith, m.is, largest_left f xs i)
+    pub most_more : {left : List ℕ} {x v : ℕ} → rest ≡ left ++ x ∷ [] → v ≡ f x → Most f xs left (max most v)
+    unfolding largest
+    most_more {left} {x} e h = record { behind = x ∷ m.behind; all = all_more left x e; is = omega (arith, m.is, h) }
 
-  pub most_end : {i most : ℕ} → Most f xs i most → i ≤ 0 → most ≡ largest (map f xs)
-  most_end {i} m h = let e : i ≡ 0 = omega arith in rw e at m.is
+    pub most_under : most ≤ largest (map f xs)
+    most_under = rw (m.is, m.all) (largest_behind f rest m.behind)
+
+  pub most_end : {rest : List ℕ} {most : ℕ} → Most f xs rest most → length rest ≡ 0 → most ≡ largest (map f xs)
+  most_end {rest = []} m e = m.is ∙ ap (λ ys. largest (map f ys)) (sym m.all)
+  most_end {rest = x ∷ rest} m e = absurd (omega arith)
 
 -- ---- bits
 

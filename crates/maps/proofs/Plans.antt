@@ -9,7 +9,6 @@ use lib.ListN.{length, get_or, take, length-take}
 use lib.Dec.{eqb}
 use borrow.Author.Tests.{not-true, eqb-false}
 use Rattle.lists.specs.Pick.{pick, both, differ}
-use Rattle.lists.specs.Search.{member}
 use Rattle.lists.proofs.Each.{both_hold, get_d_map}
 use Rattle.lists.proofs.Choices.{not_second}
 use Rattle.lists.proofs.Members.{length-map}
@@ -25,8 +24,9 @@ use Rattle.laws.specs.Kept.{kept_member}
 use Rattle.laws.specs.Packed.{Packed, AllKept, packed}
 use Rattle.readers.specs.declared.map.Pair.{Pair}
 use Rattle.sources.specs.Pairs.{pair_at, Paired}
-use Rattle.numbering.specs.Numbered.{Among, Numbered, Renumbered, Checked}
+use Rattle.numbering.specs.Numbered.{Numbered, Renumbered, Checked}
 use Rattle.sources.proofs.Pairs.{map_good}
+use Rattle.maps.specs.declared.MapPlan.{MapPlan}
 use Rattle.maps.specs.Plans.{kept_in, largest_at, Kept, Ready, Bounds, MapPlanned}
 
 -- a map of a table that passed its checks, with its kept pairs collected
@@ -41,9 +41,6 @@ ready {maps} {n = n} {m} {w} {t} {es} c g d e l = record {
 }
 
 -- ---- one pair, by its parts
-
-pub kept_parts : {pair : ℕ} {p : Pair} {ps : List ℕ} → Paired pair p → member pair ps ≡ true → Among ps p
-kept_parts p h = record { small = p.small; kept = rw p.is h }
 
 pub renumbered_is : {pair : ℕ} {p r : Pair} {ps : List ℕ} → Paired pair p → Renumbered ps (p.outer * 65536 + p.inner) r → Renumbered ps pair r
 renumbered_is p d = rw p.is at d
@@ -63,15 +60,15 @@ pub written_is : (t es : List ℕ) (m : ℕ) {at listed : ℕ} {b v : Bool} → 
 unfolding is_written counts present
 written_is t es m e l p q = rw (← e, ← l) (sym p ∙ q)
 
-pub not_written : (t : List ℕ) (rs : List Run) (es : List ℕ) (m : ℕ) → is_written t es m ≡ false
-    → MapPlanned t rs es m (record { written = false; count = 0; bits = 0; size = 0 })
-not_written t rs es m h = record {
-  written = sym h;
-  count = rw h;
-  bits = rw h;
-  size = rw h;
-  few = omega arith;
-  short = omega arith;
+pub not_written : (t : List ℕ) (rs : List Run) (es : List ℕ) (m : ℕ) {p : MapPlan} → is_written t es m ≡ false
+    → (p.written ≡ false) × ((p.count ≡ 0) × ((p.bits ≡ 0) × (p.size ≡ 0))) → MapPlanned t rs es m p
+not_written t rs es m h e = record {
+  written = rw h e.0;
+  count = rw h e.1.0;
+  bits = rw h e.1.1.0;
+  size = rw h e.1.1.1;
+  few = omega (arith, e.1.0);
+  short = omega (arith, e.1.1.1);
 }
 
 pub some_listed : (t es : List ℕ) (m : ℕ) → is_written t es m ≡ true → 0 < length es

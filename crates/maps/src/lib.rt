@@ -1,7 +1,7 @@
 // The maps of a cut table: each one's plan, and its bytes written into a lent part of the output.
 #![tactic(auto)]
 
-ghost use Rattle.std.specs.Prelude.{◌≡◌, true, false, ◌+◌, ◌*◌, ◌-◌, ◌^◌, ◌≤◌, ◌<◌, max, ltb, eqb, length, get_or, take};
+ghost use Rattle.std.specs.Prelude.{◌≡◌, true, false, ◌+◌, ◌*◌, ◌-◌, ◌^◌, ◌≤◌, ◌<◌, ltb, eqb, length, get_or, take};
 ghost use Rattle.lists.specs.Pick.{pick, both, differ};
 ghost use Rattle.lists.specs.Search.{member};
 ghost use Rattle.cells.specs.Be.{Wrote};
@@ -19,7 +19,7 @@ use readers::map::Map;
 use sources::named::{counts, glyph_pair, source_of};
 
 // What is decided for a map before it is written: its count of entries, the bits of an inner number, an entry's bytes.
-#[derive(Clone, Copy)]
+#[derive(Clone, Copy, Default)]
 pub struct MapPlan {
     pub written: bool,
     pub count: usize,
@@ -43,13 +43,12 @@ fn last_run(t: &[u8], map: Map, glyphs: &[u32]) -> usize
     ensures upper_bound { result < length glyphs.now }
     ensures glyphs_value { count_of (λ g. pair_at t.now map.at g) glyphs.now ≡ new_id (get_or glyphs.now result 0) + 1 }
 {
-    let mut i = glyphs.len() - 1;
-    let last = pair_number(t, map, glyphs[i]);
-    while i > 0 {
-        if pair_number(t, map, glyphs[i - 1]) != last {
-            return i;
+    let end = glyphs.len() - 1;
+    let last = pair_number(t, map, glyphs[end]);
+    for i in (0..end).rev() {
+        if pair_number(t, map, glyphs[i]) != last {
+            return i + 1;
         }
-        i -= 1;
     }
     0
 }
@@ -63,12 +62,6 @@ fn count_of(t: &[u8], map: Map, glyphs: &[u32]) -> usize
     (first / 65536) as usize + 1
 }
 
-fn greater(a: u32, b: u32) -> u32
-    ensures { result ≡ max a b }
-{
-    if a < b { b } else { a }
-}
-
 // The bits of the largest new inner of the listed glyphs. None has more bits than the limit, so one that has as many ends the search.
 fn new_inner_bits(work: &[u32], n: usize, t: &[u8], map: Map, glyphs: &[u32], limit: u32) -> u32
     requires sourced { Sourced t.now map }
@@ -78,15 +71,13 @@ fn new_inner_bits(work: &[u32], n: usize, t: &[u8], map: Map, glyphs: &[u32], li
 {
     let full = bits::inner_bits(limit);
     let mut most = 0;
-    let mut i = glyphs.len();
-    while i > 0 {
-        let old = glyph_pair(t, map, (glyphs[i - 1] % 65536) as usize);
+    for entry in glyphs.iter().rev() {
+        let old = glyph_pair(t, map, (*entry % 65536) as usize);
         let new = renumbered(work, n, old);
-        most = greater(most, new.inner);
+        most = u32::max(most, new.inner);
         if bits::inner_bits(most) == full {
             return full;
         }
-        i -= 1;
     }
     bits::inner_bits(most)
 }
@@ -107,10 +98,7 @@ fn outer_bits(t: &[u8], map: Map) -> usize
 fn is_written(m: usize, at: usize, listed: usize) -> bool
     ensures { result ≡ both (pick (eqb m 0) true (differ at 0)) (differ listed 0) }
 {
-    if counts(m, at) {
-        return listed != 0;
-    }
-    false
+    counts(m, at) && listed != 0
 }
 
 pub fn plan_map(work: &[u32], n: usize, t: &[u8], m: usize, glyphs: &[u32], limit: u32) -> MapPlan
@@ -119,20 +107,15 @@ pub fn plan_map(work: &[u32], n: usize, t: &[u8], m: usize, glyphs: &[u32], limi
     ensures { MapPlanned t.now (kept_in n work.now) glyphs.now m result }
 {
     let map = source_of(t, m);
-    if is_written(m, map.at, glyphs.len()) {
-        let bits = new_inner_bits(work, n, t, map, glyphs, limit) as usize;
-        return MapPlan {
-            written: true,
-            count: count_of(t, map, glyphs),
-            bits: bits,
-            size: (outer_bits(t, map) + bits + 7) / 8,
-        };
+    if !is_written(m, map.at, glyphs.len()) {
+        return MapPlan::default();
     }
+    let bits = new_inner_bits(work, n, t, map, glyphs, limit) as usize;
     MapPlan {
-        written: false,
-        count: 0,
-        bits: 0,
-        size: 0,
+        written: true,
+        count: count_of(t, map, glyphs),
+        bits,
+        size: (outer_bits(t, map) + bits + 7) / 8,
     }
 }
 
@@ -160,10 +143,7 @@ fn entry_of(work: &[u32], n: usize, t: &[u8], map: Map, entry: u32, bits: usize)
 fn is_listed(glyphs: &[u32], k: usize, id: usize) -> bool
     ensures { result ≡ both (ltb k (length glyphs.now)) (eqb (new_id (get_or glyphs.now k 0)) id) }
 {
-    if k < glyphs.len() {
-        return (glyphs[k] / 65536) as usize == id;
-    }
-    false
+    k < glyphs.len() && (glyphs[k] / 65536) as usize == id
 }
 
 // The entries of a map, behind its 4 bytes. New ids not in the list get 0.
@@ -183,8 +163,7 @@ fn put_entries(
 {
     let mut at = 4;
     let mut k = 0;
-    let mut id = 0;
-    while id < p.count {
+    for id in 0..p.count {
         let mut entry = 0;
         if is_listed(glyphs, k, id) {
             entry = entry_of(work, n, t, map, glyphs[k], p.bits);
@@ -192,7 +171,6 @@ fn put_entries(
         }
         cells::put_entry(out, at, p.size, entry);
         at += p.size;
-        id += 1;
     }
 }
 

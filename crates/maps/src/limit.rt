@@ -4,8 +4,6 @@ ghost use Rattle.rules.specs.Lists.{outer};
 ghost use Rattle.numbering.specs.Numbered.{Numbered};
 ghost use Rattle.maps.specs.Plans.{Bounds};
 
-use crate::greater;
-
 // Where the run of the k-th pair starts.
 fn run_start(work: &[u32], n: usize, k: usize) -> usize
     requires numbered { Numbered work.now n }
@@ -23,9 +21,10 @@ pub fn inner_limit(work: &[u32], n: usize) -> u32
 {
     let mut limit = 0;
     let mut end = n;
+    // A turn steps over a whole run.
     while end > 0 {
         let start = run_start(work, n, end - 1);
-        limit = greater(limit, (end - 1 - start) as u32);
+        limit = u32::max(limit, (end - 1 - start) as u32);
         end = start;
     }
     limit

@@ -5,7 +5,7 @@ use Rattle.rules.specs.Lists.{old_id}
 use Rattle.rules.specs.Maps.{new_entry}
 use Rattle.sources.specs.Pairs.{pair_at}
 use Rattle.maps.specs.Plans.{kept_in}
-use Rattle.maps.proofs.Plans.{kept_parts, renumbered_is}
+use Rattle.maps.proofs.Plans.{renumbered_is}
 use Rattle.maps.proofs.Bytes.{entry_is}
 use Rattle.maps.proofs.entry_of.Goals as goal
 use Rattle.maps.proofs.entry_of.Goals.{After-renumbered-new}
@@ -14,9 +14,6 @@ use Rattle.maps.proofs.entry_of.Goals.{After-renumbered-new}
 entry : (c : After-renumbered-new) → let a = c.args in let r = c.renumbered-new.result in
     r.outer * (1 * 2 ^ a.bits % 4294967296) + r.inner ≡ new_entry a.bits (kept_in a.n a.work.now) (pair_at a.t.now a.map.at (old_id a.entry))
 entry c = let d = renumbered_is c.glyph_pair-old.ensures c.renumbered-new.ensures in entry_is _ _ _ c.requires.bits_bound.0 d.outer d.inner
-
-pub renumbered-new-requires-clause-among : goal.renumbered-new-requires-clause-among
-renumbered-new-requires-clause-among c = kept_parts c.glyph_pair-old.ensures c.requires.work_value
 
 pub overflow_mul-result : goal.overflow_mul-result
 overflow_mul-result c = omega (arith, c.requires.bits_bound.1, entry (goal.at.overflow_mul-result c).After-renumbered-new)

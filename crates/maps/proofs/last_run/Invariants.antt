@@ -4,6 +4,3 @@ use Rattle.maps.proofs.last_run.Given as goal
 
 abbrev pub invariant-loop-i : goal.invariant-loop-i
 invariant-loop-i l = Alike (λ g. pair_at l.t l.map.at g) l.glyphs l.last l.i
-
-abbrev pub decreases-loop-i : goal.decreases-loop-i
-decreases-loop-i l = l.i

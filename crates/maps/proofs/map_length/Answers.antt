@@ -1,15 +1,8 @@
 use mathlib.Core.Path.{refl}
 use native.Mathlib.Omega.{arith}
 use native.Mathlib.Nat.{mul-le-mul}
-use borrow.Author.Rules.{rules}
 use Rattle.maps.specs.Plans.{length_of}
 use Rattle.maps.proofs.map_length.Goals as goal
-
-pub overflow_mul-result : goal.overflow_mul-result
-overflow_mul-result c = let h = mul-le-mul c.requires.0 c.requires.1 in search rules
-
-pub overflow_add-result : goal.overflow_add-result
-overflow_add-result c = let h = mul-le-mul c.requires.0 c.requires.1 in search rules
 
 pub returns-then-p : goal.returns-then-p
 unfolding length_of

@@ -5,8 +5,5 @@ use Rattle.maps.specs.Plans.{kept_in}
 use Rattle.maps.proofs.Most.{Most}
 use Rattle.maps.proofs.new_inner_bits.Given as goal
 
-abbrev pub invariant-loop-i : goal.invariant-loop-i
-invariant-loop-i l = Most (λ e. new_inner (kept_in l.n l.work) (pair_at l.t l.map.at (old_id e))) l.glyphs l.i l.most
-
-abbrev pub decreases-loop-i : goal.decreases-loop-i
-decreases-loop-i l = l.i
+abbrev pub invariant-loop-entry : goal.invariant-loop-entry
+invariant-loop-entry l = Most (λ e. new_inner (kept_in l.n l.work) (pair_at l.t l.map.at (old_id e))) l.glyphs l.entry-iterator.iter.rest.now l.most

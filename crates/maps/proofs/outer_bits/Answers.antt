@@ -1,17 +1,7 @@
 use Rattle.lists.specs.Pick.{differ_yes}
 use Rattle.opentype.specs.Map.{outer_bits, inner_bits}
 use native.Mathlib.Omega.{arith}
-use Rattle.lists.specs.Pick.{chain}
 use Rattle.maps.proofs.outer_bits.Goals as goal
-
-pub returns-then-map-eq0-clause-value : goal.returns-then-map-eq0-clause-value
-returns-then-map-eq0-clause-value c = search chain
-
-pub overflow_mul-result : goal.overflow_mul-result
-overflow_mul-result c = omega (arith, (c.requires.opened c.if-map-eq0.false).short)
-
-pub overflow_sub-result : goal.overflow_sub-result
-overflow_sub-result c = (c.requires.opened c.if-map-eq0.false).fits
 
 pub returns-clause-value : goal.returns-clause-value
 unfolding outer_bits inner_bits

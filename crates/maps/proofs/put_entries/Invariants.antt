@@ -1,10 +1,6 @@
-use Prim.Native.Nat.{◌-◌, ◌≤◌}
 use Rattle.maps.specs.Plans.{kept_in}
 use Rattle.maps.proofs.Bytes.{Entered}
 use Rattle.maps.proofs.put_entries.Given as goal
 
 abbrev pub invariant-loop-id : goal.invariant-loop-id
-invariant-loop-id l = (l.id ≤ l.p.count) × Entered (kept_in l.n l.work) l.t l.map.at l.glyphs l.p l.initial.out l.k l.id l.at l.out
-
-abbrev pub decreases-loop-id : goal.decreases-loop-id
-decreases-loop-id l = l.p.count - l.id
+invariant-loop-id l = Entered (kept_in l.n l.work) l.t l.map.at l.glyphs l.p l.initial.out l.k l.id l.at l.out

@@ -3,15 +3,6 @@ use native.Mathlib.Omega.{arith}
 use Rattle.maps.proofs.Limits.{outer_low, start_low}
 use Rattle.maps.proofs.limit.run_start.Goals as goal
 
-pub overflow_cast-o : goal.overflow_cast-o
-overflow_cast-o c = omega (arith, outer_low c.requires.numbered c.args.k c.requires.k_lt_n)
-
-pub overflow_add-result : goal.overflow_add-result
-overflow_add-result c = omega (arith, outer_low c.requires.numbered c.args.k c.requires.k_lt_n)
-
-pub offset_bounds-work-o : goal.offset_bounds-work-o
-offset_bounds-work-o c = omega (arith, outer_low c.requires.numbered c.args.k c.requires.k_lt_n)
-
 pub bounds-work-o : goal.bounds-work-o
 bounds-work-o c = omega (arith, outer_low c.requires.numbered c.args.k c.requires.k_lt_n, c.requires.numbered.long)
 
