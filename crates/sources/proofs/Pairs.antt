@@ -1,5 +1,5 @@
 -- Laws of the pairs that maps give to glyphs.
-use Prim.Native.Nat.{ℕ, zero, suc, ◌+◌, ◌^◌, ◌<◌, ◌≤◌}
+use Prim.Native.Nat.{ℕ, zero, suc, ◌+◌, ◌*◌, ◌^◌, ◌<◌, ◌≤◌}
 use mathlib.Core.Path.{◌≡◌, refl, sym, ap, ◌∙◌}
 use mathlib.Core.Bool.{Bool, true, false}
 use mathlib.Core.List.{List, [], ◌∷◌, ◌++◌, map, append-nil}
@@ -19,25 +19,51 @@ use Rattle.rules.specs.Lists.{outer, old_id}
 use Rattle.rules.specs.Open.{bad_map}
 use Rattle.rules.specs.Numbering.{present, pair_of, counts, named_pairs, bad_outer}
 use Rattle.rules.specs.TableCut.{bad_maps}
+use Rattle.std.specs.Prelude.{Option, Some, None, is_some, MatchOption}
+use Rattle.rules.specs.declared.Pair.{Pair}
 use Rattle.readers.specs.declared.map.Map.{Map}
-use Rattle.readers.specs.declared.map.Pair.{Pair}
+use Rattle.readers.specs.declared.map.MapShape.{MapShape}
 use Rattle.readers.specs.Opened.{OpenedMap}
-use Rattle.sources.specs.Pairs.{pair_at, pairs_at, Paired}
+use Rattle.sources.specs.declared.named.Source.{Source}
+use Rattle.sources.specs.Pairs.{pair_at, pairs_at, pair_in, pair_through, pairs_in, IsSource, Paired}
 use Rattle.lists.proofs.Anys.{any_append}
 use Rattle.lists.proofs.Left.{any-map}
 
 -- ---- one pair
 
-pub paired_absent : (t : List ℕ) (at g : ℕ) {p : Pair} → at ≡ 0 → p.outer ≡ 0 → p.inner ≡ g → g < 65536 → Paired (pair_at t at g) p
-unfolding pair_at
-paired_absent t at g e o i h = record { is = rw (differ_no at 0 e) (omega arith); small = omega arith }
+-- a pair of so few inner bits
+pub paired_present : (s : List ℕ) {m : MapShape} (g : ℕ) {p : Pair} → OpenedMap s m → p.outer ≡ outer_of s m.at g → p.inner ≡ inner_of s m.at g
+    → Paired (outer_of s m.at g * 65536 + inner_of s m.at g) p
+unfolding inner_of
+paired_present s {m} g r o i =
+    let few = pow_mono {i = inner_bits s m.at} {j = 16} (rw (← r.bits) r.few) in
+    let low = mod-lt (entry s m.at g) (pow_pos (inner_bits s m.at)) in
+    record { is = rw (o, i); small = rw i (omega (arith, few, low)) }
 
-pub paired_present : (t : List ℕ) {m : Map} (g : ℕ) {p : Pair} → OpenedMap t m → (m.at ≡ 0 → ⊥) → p.outer ≡ outer_of t m.at g → p.inner ≡ inner_of t m.at g → Paired (pair_at t m.at g) p
-unfolding pair_at inner_of
-paired_present t {m} g r n o i =
-    let few = pow_mono {i = inner_bits t m.at} {j = 16} (rw (← r.bits) r.few) in
-    let low = mod-lt (entry t m.at g) (pow_pos (inner_bits t m.at)) in
-    record { is = rw (differ_yes m.at 0 n, o, i); small = rw i (omega (arith, few, low)) }
+-- the pairs of a source are those of the table's map
+pub pair_is : (t : List ℕ) (m : ℕ) (src : Source) → IsSource t m src → (g : ℕ) → pair_in src g ≡ pair_at t (map_at t m) g
+unfolding pair_in pair_at
+pair_is t m src h g = one src.map h
+  where
+    one : (o : Option Map) → MatchOption o (map_at t m ≡ 0) (λ x. (map_at t m ≡ 0 → ⊥) × (x.bytes.now ≡ t) × (x.shape.at ≡ map_at t m))
+        → pair_through o g ≡ pick (differ (map_at t m) 0) (outer_of t (map_at t m) g * 65536 + inner_of t (map_at t m) g) g
+    one None e = rw (differ_no _ _ e)
+    one (Some x) h = rw (differ_yes _ _ h.0, h.1, h.2)
+
+pub pairs_are : (t : List ℕ) (m : ℕ) (src : Source) (es : List ℕ) → IsSource t m src → pairs_in src es ≡ pairs_at t (map_at t m) es
+unfolding pairs_in pairs_at
+pairs_are t m src [] h = refl
+pairs_are t m src (e ∷ es) h = rw (pair_is t m src h (old_id e)) (ap (λ ps. pair_at t (map_at t m) (old_id e) ∷ ps) (pairs_are t m src es h))
+
+-- what the code's test says of the map
+pub counts_is : (t : List ℕ) (m : ℕ) (src : Source) → IsSource t m src → pick (eqb m 0) true (is_some src.map) ≡ counts t m
+unfolding counts present
+counts_is t m src h = rw (there src.map h)
+  where
+    there : (o : Option Map) → MatchOption o (map_at t m ≡ 0) (λ x. (map_at t m ≡ 0 → ⊥) × (x.bytes.now ≡ t) × (x.shape.at ≡ map_at t m))
+        → is_some o ≡ differ (map_at t m) 0
+    there None e = sym (differ_no _ _ e)
+    there (Some x) h = sym (differ_yes _ _ h.0)
 
 -- an inner of so many bits
 pub inner_narrow : (t : List ℕ) (at g : ℕ) {i v : ℕ} → i ≡ inner_of t at g → 2 ^ inner_bits t at ≤ v → i < v
@@ -52,11 +78,6 @@ past_is count p = rw (outer_is p)
 
 -- ---- the map that gives them
 
--- what the code's test says of the map
-pub counts_is : (t : List ℕ) (m at : ℕ) {b v : Bool} → at ≡ map_at t m → b ≡ pick (eqb m 0) true (differ at 0) → b ≡ v → counts t m ≡ v
-unfolding counts present
-counts_is t m at e p q = rw (← e) (sym p ∙ q)
-
 pub map_good : (maps : ℕ) (t : List ℕ) (m : ℕ) → bad_maps maps t ≡ false → m < maps → both (present t m) (bad_map t (map_at t m)) ≡ false
 unfolding bad_maps
 map_good maps t m h l = some-not (λ k. both (present t k) (bad_map t (map_at t k))) maps m h l
@@ -69,12 +90,12 @@ usable t at m e n h = rw (← e, differ_yes at 0 n) at h
 -- ---- the pairs of the listed glyphs
 
 -- the entry's pair names an outer at or past the count
-abbrev pub past : List ℕ → ℕ → ℕ → ℕ → Bool
-past t at count e = leb count (outer (pair_at t at (old_id e)))
+abbrev pub past : Source → ℕ → ℕ → Bool
+past src count e = leb count (outer (pair_in src (old_id e)))
 
-pub past_any : (t : List ℕ) (at count : ℕ) (es : List ℕ) → bad_outer count (pairs_at t at es) ≡ any (past t at count) es
-unfolding bad_outer pairs_at
-past_any t at count es = any-map (λ p. leb count (outer p)) (λ e. pair_at t at (old_id e)) es
+pub past_any : (src : Source) (count : ℕ) (es : List ℕ) → bad_outer count (pairs_in src es) ≡ any (past src count) es
+unfolding bad_outer pairs_in
+past_any src count es = any-map (λ p. leb count (outer p)) (λ e. pair_in src (old_id e)) es
 
 -- ---- the pairs of all maps
 
