@@ -6,7 +6,7 @@ use mathlib.Core.List.{List, [], ◌∷◌, ◌++◌, map, append-nil}
 use native.Mathlib.Omega.{arith}
 use native.Mathlib.Numerals.{add-one}
 use lib.ListN.{length, get_or, take, drop, length-append, length-drop, length-take}
-use lib.Seq.{drop-cons, drop-length, length-take-le, get_or-take, get_or-drop}
+use lib.Seq.{drop-cons, length-take-le, get_or-take, get_or-drop}
 use Rattle.lists.specs.Pick.{pick}
 use Rattle.lists.specs.Gather.{gather, flat, select, rank}
 use Rattle.lists.proofs.Pieces.{flat_append}
@@ -23,7 +23,7 @@ use Rattle.laws.specs.Lengths.{sum, record_ends, length_records}
 use Rattle.rows.specs.Area.{used_in, used_of}
 use Rattle.objects.specs.Offsets.{offsets_by}
 use borrow.Rule.Slice.PartMut.{put_mid}
-use Rattle.objects.proofs.Filled.{Filled, filled_none, filled_wrote, filled_all}
+use Rattle.objects.proofs.Filled.{Filled, filled_none, filled_wrote}
 
 -- ---- offsets
 
@@ -54,9 +54,6 @@ module _ {ns : List ℕ} {first : ℕ} {out : List ℕ} {k next : ℕ} (o : Offs
   unfolding sum
   sums = rw split at o.left
 
-  pub offset_small : next ≤ first + sum ns
-  offset_small = omega (arith, sums)
-
   pub offset_more : {w : List ℕ} {n : ℕ} → Wrote out (4 * k) (be_bytes 4 next) w → n ≡ get_or ns k 0 → Offset ns first w (k + 1) (next + n)
   unfolding offsets_by
   offset_more {w} {n} p r =
@@ -66,11 +63,6 @@ module _ {ns : List ℕ} {first : ℕ} {out : List ℕ} {k next : ℕ} (o : Offs
         left = rw r (omega (arith, sums));
         filled = rw r (filled_wrote (be_bytes 4 next) (offsets_by (next + get_or ns k 0) (drop (k + 1) ns)) (4 * (k + 1)) f (rw (length-be_bytes 4 next) (omega arith)) p);
       }
-
-pub offset_all : {ns : List ℕ} {first : ℕ} {out : List ℕ} {k next : ℕ} → Offset ns first out k next → k ≡ length ns → out ≡ offsets_by first ns
-unfolding offsets_by
-offset_all {ns} {first} {out} {k} {next} o e =
-    let f : Filled out (4 * length ns) (offsets_by next []) (offsets_by first ns) = rw (e, drop-length ns) at o.filled in filled_all f
 
 -- the lengths in the work area
 pub noted_at : (w : List ℕ) (count k : ℕ) → k < count → get_or (take count (drop 8832 w)) k 0 ≡ get_or w (8832 + k) 0

@@ -1,7 +1,6 @@
 use mathlib.Core.Path.{◌∙◌}
 use native.Mathlib.Nat.{add-sub_cancel_left}
 use native.Mathlib.Omega.{arith}
-use lib.ListN.{length-take, length-drop}
 use borrow.Author.Rules.{rules}
 use Rattle.lists.proofs.Laid.{laid_none, laid_more}
 use Rattle.laws.specs.Inside.{regions_inside}
@@ -35,10 +34,6 @@ slice_bounds-copy-end c = omega (arith, turn c)
 
 pub slice_bounds-copy-end-in-loop-r : goal.slice_bounds-copy-end-in-loop-r
 slice_bounds-copy-end-in-loop-r c = omega (arith, turn (goal.at.slice_bounds-copy-end-in-loop-r c).After-used_length-length)
-
-pub copy-requires : goal.copy-requires
-copy-requires c = let t = turn (goal.at.copy-requires c).After-used_length-length in
-    simp (length-take, length-drop) (omega (arith, t.room, t.stop, c.loop-r.auto.out))
 
 pub overflow_add-from-in-loop-r : goal.overflow_add-from-in-loop-r
 overflow_add-from-in-loop-r c = omega (arith, turn (goal.at.overflow_add-from-in-loop-r c).After-used_length-length)

@@ -1,6 +1,5 @@
-use Prim.Native.Nat.{◌+◌, ◌*◌, ◌-◌, ◌≤◌}
+use Prim.Native.Nat.{◌+◌, ◌*◌}
 use mathlib.Core.Path.{◌≡◌}
-use lib.ListN.{length}
 use Rattle.lists.proofs.Laid.{Laid}
 use Rattle.opentype.specs.Store.{regions_at, record_length}
 use Rattle.objects.proofs.Lists.{record_of}
