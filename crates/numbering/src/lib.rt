@@ -66,7 +66,8 @@ fn index_by(work: &mut [u32], n: usize, shift: u32) -> usize
     ensures work_unchanged { take 9088 work.new ≡ take 9088 work.old }
 {
     work[9345] = shift;
-    let mut last: u32 = 4294967295;
+    // No pair has this one's outer, so the first begins a segment.
+    let mut last = u32::MAX;
     let mut start = 0;
     let mut slot = 0;
     for k in 0..n {
