@@ -23,8 +23,7 @@ use Rattle.readers.specs.declared.map.Map.{Map}
 use Rattle.readers.specs.declared.map.Pair.{Pair}
 use Rattle.readers.specs.Opened.{OpenedMap}
 use Rattle.sources.specs.Pairs.{pair_at, pairs_at, Paired}
-use Rattle.lists.proofs.Anys.{any_append}
-use Rattle.lists.proofs.Left.{any-map}
+use Rattle.lists.proofs.Anys.{any_append, any-map}
 
 -- ---- one pair
 
