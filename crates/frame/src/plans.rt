@@ -1,5 +1,5 @@
 // The maps of a table: their plans, their offsets in the header, and their bytes one after the other.
-ghost use Rattle.std.specs.Prelude.{◌≡◌, true, false, ◌+◌, ◌*◌, ◌≤◌, ◌<◌, ◌^◌, ltb, length};
+ghost use Rattle.std.specs.Prelude.{◌≡◌, true, false, ◌+◌, ◌*◌, ◌≤◌, ◌<◌, ◌^◌, length};
 ghost use Rattle.lists.specs.Pick.{pick};
 ghost use Rattle.lists.specs.Gather.{gather};
 ghost use Rattle.rules.specs.Maps.{map_bytes};
