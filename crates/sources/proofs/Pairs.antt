@@ -24,15 +24,9 @@ use Rattle.rules.specs.declared.Pair.{Pair}
 use Rattle.readers.specs.declared.map.Map.{Map}
 use Rattle.readers.specs.declared.map.MapShape.{MapShape}
 use Rattle.readers.specs.Opened.{OpenedMap}
-<<<<<<< HEAD
 use Rattle.sources.specs.declared.named.Source.{Source}
 use Rattle.sources.specs.Pairs.{pair_at, pairs_at, pair_in, pair_through, pairs_in, IsSource, Paired}
-use Rattle.lists.proofs.Anys.{any_append}
-use Rattle.lists.proofs.Left.{any-map}
-=======
-use Rattle.sources.specs.Pairs.{pair_at, pairs_at, Paired}
 use Rattle.lists.proofs.Anys.{any_append, any-map}
->>>>>>> 45f20c1197f020310466209dcb1aba1a8905de0c
 
 -- ---- one pair
 
