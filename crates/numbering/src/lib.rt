@@ -6,7 +6,7 @@
 //   12,288   by slot, modulo 4,096, the place of the first pair in it
 #![tactic(auto)]
 
-ghost use Rattle.std.specs.Prelude.{◌≡◌, false, ◌+◌, ◌*◌, ◌≤◌, ◌<◌, length, take, drop};
+ghost use Rattle.std.specs.Prelude.{◌≡◌, false, ◌+◌, ◌*◌, ◌≤◌, ◌<◌, IfSome, length, take};
 ghost use Rattle.lists.specs.Search.{place};
 ghost use Rattle.rules.specs.Lists.{outer, twice};
 ghost use Rattle.numbering.specs.Numbered.{Among, Numbered, Renumbered};
@@ -19,9 +19,10 @@ fn segment_at(last: u32, pair: u32) -> usize
     ensures { result ≤ 256 }
 {
     if last / 65536 == pair / 65536 {
-        return 256;
+        256
+    } else {
+        (pair / 65536) as usize
     }
-    (pair / 65536) as usize
 }
 
 // A pair's slot in its segment.
@@ -39,10 +40,8 @@ fn segment_start(work: &mut [u32], start: usize, slot: usize, last: u32, pair: u
     ensures work_unchanged { take 9088 work.new ≡ take 9088 work.old }
 {
     let segment = segment_at(last, pair);
-    if segment == 256 {
-        if last < pair {
-            return start;
-        }
+    if segment == 256 && last < pair {
+        return start;
     }
     let next = slot + 1;
     work[9088 + segment] = next as u32;
@@ -67,18 +66,17 @@ fn index_by(work: &mut [u32], n: usize, shift: u32) -> usize
     ensures work_unchanged { take 9088 work.new ≡ take 9088 work.old }
 {
     work[9345] = shift;
-    let mut last: u32 = 4294967295;
+    // No pair has this one's outer, so the first begins a segment.
+    let mut last = u32::MAX;
     let mut start = 0;
     let mut slot = 0;
-    let mut k = 0;
-    while k < n {
+    for k in 0..n {
         let pair = work[k];
         start = segment_start(work, start, slot, last, pair);
         let next = start + spot_of(pair, shift);
         note_place(work, slot, next, k);
         slot = next;
         last = pair;
-        k += 1;
     }
     slot
 }
@@ -115,43 +113,29 @@ fn guess(work: &[u32], segment: usize, inner: u32) -> usize
     work[12288 + slot] as usize
 }
 
-// The check of a guess: the place of a number that stands at h or less than 32 behind it, with lesser ones between; n where it doesn't.
-// No number stands twice among the first n, so where it is found is its place.
-fn place_near(list: &[u32], n: usize, h: usize, x: u32) -> usize
-    requires n_in_bounds { (n ≤ length list.now) × (twice (take n list.now) ≡ false) }
+// The check of a guess: the place of a number that stands at h or less than 32 behind it, with lesser ones between.
+// No number stands twice, so where it is found is its place.
+fn place_near(list: &[u32], h: usize, x: u32) -> Option<usize>
+    requires list_value { twice list.now ≡ false }
     requires h_bound { h ≤ 4294967295 }
-    ensures { result < n → result ≡ place x (take n list.now) }
+    ensures { IfSome result (λ i. i ≡ place x list.now) }
 {
-    let mut i = h;
-    while i < n {
+    for i in h..list.len().min(h + 32) {
         if list[i] == x {
-            return i;
+            return Some(i);
         }
         if x < list[i] {
-            return n;
+            return None;
         }
-        if h + 31 <= i {
-            return n;
-        }
-        i += 1;
     }
-    n
+    None
 }
 
-// The place of a number among those from one index up to another.
-fn place_among(list: &[u32], from: usize, to: usize, x: u32) -> usize
-    requires { (from ≤ to) × (to ≤ length list.now) }
-    ensures value { result ≡ place x (drop from (take to list.now)) }
-    ensures upper_bound { result ≤ to }
+// The place of a number; the length where it doesn't stand.
+fn place_among(list: &[u32], x: u32) -> usize
+    ensures { result ≡ place x list.now }
 {
-    let mut i = from;
-    while i < to {
-        if list[i] == x {
-            return i - from;
-        }
-        i += 1;
-    }
-    i - from
+    list.iter().position(|y| x == *y).unwrap_or(list.len())
 }
 
 // The place of a kept pair in the list: by the first of the two guesses that holds, or else what a walk through its run finds.
@@ -160,19 +144,18 @@ fn place_of(work: &[u32], n: usize, p: Pair) -> usize
     requires among { Among (take n work.now) p }
     ensures { result ≡ place (p.outer * 65536 + p.inner) (take n work.now) }
 {
+    let kept = &work[..n];
     let outer = p.outer as usize;
     let inner = p.inner;
     let pair = p.outer * 65536 + p.inner;
-    let first = place_near(work, n, guess(work, outer, inner), pair);
-    if first < n {
+    if let Some(first) = place_near(kept, guess(work, outer, inner), pair) {
         return first;
     }
-    let second = place_near(work, n, guess(work, 256, inner), pair);
-    if second < n {
+    if let Some(second) = place_near(kept, guess(work, 256, inner), pair) {
         return second;
     }
     let from = work[8192 + outer] as usize;
-    from + place_among(work, from, n, pair)
+    from + place_among(&kept[from..], pair)
 }
 
 // A kept pair's new outer and new inner: the number of its outer's run, and its place in it.
