@@ -11,7 +11,7 @@ use Rattle.lists.proofs.Selects.{rank_le}
 use Rattle.lists.proofs.Places.{at_place}
 use Rattle.rules.specs.Lists.{runs}
 use Rattle.rules.specs.Numbering.{new_inner}
-use Rattle.readers.specs.declared.map.Pair.{Pair}
+use Rattle.rules.specs.declared.Pair.{Pair}
 use Rattle.numbering.specs.Numbered.{used, Numbered, Among, Renumbered}
 use Rattle.numbering.proofs.Starts.{start_inside, start_place, inner-place, inner_short, used-member, outer-rank}
 

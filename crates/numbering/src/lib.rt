@@ -6,12 +6,12 @@
 //   12,288   by slot, modulo 4,096, the place of the first pair in it
 #![tactic(auto)]
 
-ghost use Rattle.std.specs.Prelude.{◌≡◌, false, ◌+◌, ◌*◌, ◌≤◌, ◌<◌, IfSome, length, take};
+ghost use Rattle.std.specs.Prelude.{◌≡◌, false, ◌+◌, ◌*◌, ◌≤◌, ◌<◌, IfSome, take};
 ghost use Rattle.lists.specs.Search.{place};
 ghost use Rattle.rules.specs.Lists.{outer, twice};
 ghost use Rattle.numbering.specs.Numbered.{Among, Numbered, Renumbered};
 
-use readers::map::Pair;
+use rules::{Pair, WorkArea};
 
 // The segment that a pair would begin behind the last one: in the same outer, that is the second of outer 0.
 fn segment_at(last: u32, pair: u32) -> usize
@@ -34,8 +34,8 @@ fn spot_of(pair: u32, shift: u32) -> usize
 }
 
 // Where a pair's segment starts. If the pair begins one, that is behind the last pair's slot, and is noted.
-fn segment_start(work: &mut [u32], start: usize, slot: usize, last: u32, pair: u32) -> usize
-    requires { (length work.old ≡ 16384) × (start ≤ slot) × (slot ≤ 536870912) × (outer pair < 256) }
+fn segment_start(work: &mut WorkArea, start: usize, slot: usize, last: u32, pair: u32) -> usize
+    requires { (start ≤ slot) × (slot ≤ 536870912) × (outer pair < 256) }
     ensures upper_bound { result ≤ slot + 1 }
     ensures work_unchanged { take 9088 work.new ≡ take 9088 work.old }
 {
@@ -49,8 +49,8 @@ fn segment_start(work: &mut [u32], start: usize, slot: usize, last: u32, pair: u
 }
 
 // Notes that the pair at k stands in a slot, if it is the first there: if the last one stands in another.
-fn note_place(work: &mut [u32], last: usize, slot: usize, k: usize)
-    requires { (length work.old ≡ 16384) × (k < 8192) }
+fn note_place(work: &mut WorkArea, last: usize, slot: usize, k: usize)
+    requires { k < 8192 }
     ensures { take 9088 work.new ≡ take 9088 work.old }
 {
     if slot != last {
@@ -59,7 +59,7 @@ fn note_place(work: &mut [u32], last: usize, slot: usize, k: usize)
 }
 
 // Makes the index of the n kept pairs, a slot for 2^shift inners; gives the last slot. They start at 1.
-fn index_by(work: &mut [u32], n: usize, shift: u32) -> usize
+fn index_by(work: &mut WorkArea, n: usize, shift: u32) -> usize
     requires numbered { Numbered work.old n }
     requires shift_bound { shift < 16 }
     ensures upper_bound { result ≤ 536870912 }
@@ -90,7 +90,7 @@ fn shift_for(slots: usize) -> u32
 }
 
 // Makes the index. Past 4,096 slots would stand on others: then a slot is for several inners.
-pub fn index(work: &mut [u32], n: usize)
+pub fn index(work: &mut WorkArea, n: usize)
     requires { Numbered work.old n }
     ensures { take 9088 work.new ≡ take 9088 work.old }
 {
@@ -104,8 +104,8 @@ pub fn index(work: &mut [u32], n: usize)
 }
 
 // Where a pair stands by the index, if it stands in the segment: there, or a little behind where a slot is for several inners.
-fn guess(work: &[u32], segment: usize, inner: u32) -> usize
-    requires { (length work.now ≡ 16384) × (segment ≤ 256) × (inner < 65536) }
+fn guess(work: &WorkArea, segment: usize, inner: u32) -> usize
+    requires { (segment ≤ 256) × (inner < 65536) }
     ensures { result ≤ 4294967295 }
 {
     let spot = spot_of(inner, work[9345] % 16);
@@ -139,7 +139,7 @@ fn place_among(list: &[u32], x: u32) -> usize
 }
 
 // The place of a kept pair in the list: by the first of the two guesses that holds, or else what a walk through its run finds.
-fn place_of(work: &[u32], n: usize, p: Pair) -> usize
+fn place_of(work: &WorkArea, n: usize, p: Pair) -> usize
     requires numbered { Numbered work.now n }
     requires among { Among (take n work.now) p }
     ensures { result ≡ place (p.outer * 65536 + p.inner) (take n work.now) }
@@ -159,7 +159,7 @@ fn place_of(work: &[u32], n: usize, p: Pair) -> usize
 }
 
 // A kept pair's new outer and new inner: the number of its outer's run, and its place in it.
-pub fn renumbered(work: &[u32], n: usize, p: Pair) -> Pair
+pub fn renumbered(work: &WorkArea, n: usize, p: Pair) -> Pair
     requires numbered { Numbered work.now n }
     requires among { Among (take n work.now) p }
     ensures { Renumbered (take n work.now) (p.outer * 65536 + p.inner) result }

@@ -9,7 +9,7 @@ pub overflow_add-pair : goal.overflow_add-pair
 overflow_add-pair c = omega (arith, outer_low c.requires.numbered c.requires.among, c.requires.among.small)
 
 pub guess-requires : goal.guess-requires
-guess-requires c = (c.requires.numbered.long, omega (arith, outer_low c.requires.numbered c.requires.among), c.requires.among.small)
+guess-requires c = (omega (arith, outer_low c.requires.numbered c.requires.among), c.requires.among.small)
 
 pub bounds-work-outer : goal.bounds-work-outer
 bounds-work-outer c = omega (arith, outer_low c.requires.numbered c.requires.among, c.requires.numbered.long)
