@@ -11,8 +11,8 @@ use std::io::Read;
 
 fn same_answer(a: Answer, number: u32, length: usize) -> bool {
     match a {
-        Answer::Written(n) => number == 0 && n == length,
-        Answer::Refused(r) => readers::number_of(r) == number && length == 0,
+        Ok(n) => number == 0 && n == length,
+        Err(r) => u32::from(r) == number && length == 0,
     }
 }
 

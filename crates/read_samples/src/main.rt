@@ -6,12 +6,22 @@ mod maps;
 mod refusals;
 mod stores;
 
-use rules::{Delta, Entry};
+use rules::{Pair, Refusal};
 use std::io;
 
 // Tells a call that differs, by its numbers.
 fn differs(rt: &impl Print, what: &str, a: u32, b: u32, c: u32) -> io::Result<()> {
     println!(rt; "{what} {a} {b} {c} differs")
+}
+
+// Whether an answer has that number, and a value that is right.
+fn answers<T: Drop, F: FnOnce(T) -> bool>(answer: Result<T, Refusal>, number: u32, right: F) -> bool
+    requires { F.IsAlwaysCallable right }
+{
+    match answer {
+        Ok(value) => number == 0 && right(value),
+        Err(r) => number == u32::from(r),
+    }
 }
 
 // The delta reader shall give that number and that value.
@@ -24,11 +34,8 @@ fn delta(
     number: u32,
     value: i32,
 ) -> io::Result<()> {
-    let right = match readers::read_delta(store, outer, inner, column) {
-        Delta::Value(z) => number == 0 && z == value,
-        Delta::Refused(r) => number == readers::number_of(r),
-    };
-    if right {
+    let answer = readers::read_delta(store, outer, inner, column);
+    if answers(answer, number, |delta| delta == value) {
         return Ok(());
     }
     differs(rt, "delta", outer, inner, column)
@@ -43,9 +50,8 @@ fn row(
     number: u32,
     part: &[u8],
 ) -> io::Result<()> {
-    let mut given = 0;
-    let found = readers::read_row(store, outer, inner, &mut given);
-    if found == part && given == number {
+    let answer = readers::read_row(store, outer, inner);
+    if answers(answer, number, |row| row == part) {
         return Ok(());
     }
     differs(rt, "row", outer, inner, number)
@@ -60,11 +66,8 @@ fn entry(
     outer: u32,
     inner: u32,
 ) -> io::Result<()> {
-    let right = match readers::read_entry(map, glyph) {
-        Entry::Pair(o, i) => number == 0 && o == outer && i == inner,
-        Entry::Refused(r) => number == readers::number_of(r),
-    };
-    if right {
+    let answer = readers::read_entry(map, glyph);
+    if answers(answer, number, |pair| pair == Pair { outer, inner }) {
         return Ok(());
     }
     differs(rt, "entry", glyph, outer, inner)

@@ -1,6 +1,5 @@
 // One call of the library, and whether it is answered as the list says.
 use crate::memory::{OUT_MARK, WORK_MARK, holds};
-use readers::number_of;
 use rules::Answer;
 
 // Which cut is asked for.
@@ -52,8 +51,8 @@ pub fn same(
     work.fill(WORK_MARK);
     out.fill(OUT_MARK);
     let (number, length) = match call(asked.cut, bytes, list, work, out) {
-        Answer::Written(n) => (0, n),
-        Answer::Refused(r) => (number_of(r), 0),
+        Ok(n) => (0, n),
+        Err(r) => (u32::from(r), 0),
     };
     let left = if number == 1 { WORK_MARK } else { 0 };
     number == asked.number
