@@ -47,9 +47,6 @@ pub record Agreed (s old : List ℕ) (at : ℕ) (out : List ℕ) : Type 0 where
   pub same : length out ≡ length old
   pub is : take at out ≡ take at s
 
-pub agreed_none : (s old : List ℕ) → Agreed s old 0 old
-agreed_none s old = record { same = refl; is = refl }
-
 -- s's elements from `at` to e come over those of out
 pub agreed_more : {s old : List ℕ} {at e : ℕ} {out : List ℕ} (w : List ℕ) → Agreed s old at out → at ≤ e → e ≤ length old → e ≤ length s → w ≡ mid_of at (e - at) s
     → Agreed s old e (put_mid at (e - at) out w)

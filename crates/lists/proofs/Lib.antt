@@ -9,7 +9,6 @@ pub mod Ranks
 pub mod Selects
 pub mod Largest
 pub mod Parts
-pub mod Copies
 pub mod Cuts
 pub mod Writes
 pub mod Laid

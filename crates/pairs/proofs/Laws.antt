@@ -1,7 +1,7 @@
 -- Laws of the set of inners that the search for a pair that stands twice keeps, of pairs that rise, and of the runs of one outer.
 use Prim.Native.Nat.{ℕ, zero, suc, ◌+◌, ◌-◌, ◌*◌, ◌<◌, ◌≤◌}
 use mathlib.Core.Path.{◌≡◌, refl, sym, ap, ◌∙◌}
-use mathlib.Core.Bool.{Bool, true, false, not, false≢true}
+use mathlib.Core.Bool.{Bool, true, false, not, ◌&&◌, false≢true}
 use mathlib.Core.List.{List, [], ◌∷◌, ◌++◌, map}
 use native.Mathlib.Omega.{arith}
 use native.Mathlib.Nat.{not-suc-le-zero}
@@ -15,7 +15,6 @@ use Rattle.std.specs.List.{IsAllAdjacentAnswer}
 use Rattle.std.specs.Ordering.{is_le, is_some_and, nat_cmp}
 use Rattle.std.specs.declared.option.Option.TheVariants.{Some}
 use Rattle.std.specs.Simd.{first_chunks}
-use Rattle.std.specs.Prelude.{nat_lt}
 use Rattle.std.proofs.lemmas.Map.Keys.{le_from_is_le}
 use Rattle.lists.specs.Pick.{pick}
 use Rattle.lists.specs.Search.{any, member}
@@ -126,10 +125,16 @@ rises_by_next b [] g h = tt
 rises_by_next b (p ∷ []) g h = (g, tt)
 rises_by_next b (p ∷ q ∷ ps) g h = (g, rises_by_next (suc p) (q ∷ ps) (h 0 (omega arith)) (λ k l. h (suc k) (omega arith)))
 
--- from what `is_sorted_by` ensures
-pub rises_sorted : (ps : List ℕ) (r : Bool) → IsAllAdjacentAnswer (λ x y b. b ≡ nat_lt x y) ps r → r ≡ true → Rises 0 ps
-rises_sorted ps true h e = rises_by_next 0 ps (omega arith) (λ k l. let g = ltb-true (get_or ps k 0) (get_or ps (k + 1) 0) (sym (h k 0 (omega arith))) in rw add-one at g)
-rises_sorted ps false h e = absurd (false≢true e)
+pub rises_more : (ps : List ℕ) (i : ℕ) (r : Bool) → 1 ≤ i → (r ≡ true → (k : ℕ) → suc k < i → get_or ps k 0 < get_or ps (suc k) 0)
+    → r && ltb (get_or ps (i - 1) 0) (get_or ps i 0) ≡ true → (k : ℕ) → suc k < i + 1 → get_or ps k 0 < get_or ps (suc k) 0
+rises_more ps i false h f e k l = absurd (false≢true e)
+rises_more ps i true h f e k l = elim (dec_lt (suc k) i) [
+  | yes g ↦ f refl k g
+  | no g ↦ (let q : i ≡ suc k = omega arith in let p : i - 1 ≡ k = omega arith in rw (← q) (rw p at (ltb-true (get_or ps (i - 1) 0) (get_or ps i 0) e)))
+]
+
+pub rises_all : (ps : List ℕ) (i : ℕ) → length ps ≤ i → ((k : ℕ) → suc k < i → get_or ps k 0 < get_or ps (suc k) 0) → Rises 0 ps
+rises_all ps i h f = rises_by_next 0 ps (omega arith) (λ k l. f k (omega arith))
 
 -- their outers don't fall, and none stands twice
 pub rises_kept : (ps : List ℕ) → length ps ≤ most_pairs → Rises 0 ps → bad_pairs ps ≡ false

@@ -43,11 +43,15 @@ fn stands_twice(set: &mut [u32], pairs: &[u32]) -> bool
     false
 }
 
-// Whether each pair is above the one before it.
+// Whether each pair is above the one before it. No exit at the first that isn't: without one, the compiler compares several pairs at once.
 fn rises(pairs: &[u32]) -> bool
     ensures { result ≡ true → Rises 0 pairs.now }
 {
-    pairs.is_sorted_by(|a, b| *a < *b)
+    let mut rises = true;
+    for i in 1..pairs.len() {
+        rises &= pairs[i - 1] < pairs[i];
+    }
+    rises
 }
 
 // 2. Pairs that rise need no set: no outer falls, and none stands twice.
