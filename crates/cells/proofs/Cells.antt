@@ -1,13 +1,13 @@
 -- Laws of big-endian cells and of writes, each once over the width.
 use mathlib.Core.Path.{◌≡◌, refl, sym, ap, ap₂, ◌∙◌}
 use mathlib.Core.List.{List, [], ◌∷◌, ◌++◌, append_assoc, append-nil}
-use Prim.Native.Nat.{ℕ, zero, suc, ◌+◌, ◌*◌, ◌/◌, ◌%◌, ◌^◌, ◌≤◌, ◌<◌}
+use Prim.Native.Nat.{ℕ, zero, suc, ◌+◌, ◌-◌, ◌*◌, ◌/◌, ◌%◌, ◌^◌, ◌≤◌, ◌<◌}
 use native.Mathlib.Nat.{add-zero, zero-add, add-suc, suc-add, add_assoc, add-mul, mul_assoc, zero-lt-suc}
 use native.Mathlib.Nat.{pow-suc, pow-succ', one-le-pow, div-div-eq-div-mul, div-one, mod-eq_of_lt}
 use native.Mathlib.Omega.{arith}
 use lib.Arith.{digits_lt, digits_div, digits_mod, mod-mul}
 use lib.Pow.{pow-add}
-use lib.ListN.{length, get_or, set, take, drop, length-append, length-set, length-drop}
+use lib.ListN.{length, get_or, set, take, drop, length-append, length-set, length-take, length-drop}
 use lib.Seq.{sets, sets-eq, take-suc, get_or-append-add, get_or_at, get_or-set_same, get_or-set_other, get_or-take, get_or-drop}
 use Rattle.cells.specs.Be.{be, be_bytes, Cell, Wrote}
 
@@ -26,6 +26,29 @@ be_cat a (suc b) s at = rw (add-suc, be_cat a b s at, pow-suc, add-mul, mul_asso
 pub cell_cat : (a b : ℕ) {s : List ℕ} {at x y : ℕ} → Cell a s at x → Cell b s (at + a) y
     → Cell (a + b) s at (x * 256 ^ b + y)
 cell_cat a b {s} {at} p q = record { is = rw (be_cat a b s at, p.is, q.is); small = rw pow-add (digits_lt p.small q.small) }
+
+-- no bytes, and one more
+pub cell_none : (s : List ℕ) (at : ℕ) → Cell 0 s at 0
+unfolding be
+cell_none s at = record { is = refl; small = omega arith }
+
+pub cell_more : {w : ℕ} {s : List ℕ} {at n : ℕ} → Cell w s at n → (b : ℕ) → b ≡ get_or s (at + w) 0 → b < 256 → Cell (w + 1) s at (n * 256 + b)
+cell_more {w} {s} {at} p b e h = cell_cat w 1 p (rw e (cell_one s (at + w) (rw e at h)))
+
+-- a number of fewer than 4 bytes has room for one more
+pub cell_room : (w : ℕ) {s : List ℕ} {at n : ℕ} → Cell w s at n → w < 4 → n < 256 * (256 * 256)
+cell_room zero p h = omega (arith, p.small)
+cell_room (suc zero) p h = omega (arith, p.small)
+cell_room (suc (suc zero)) p h = omega (arith, p.small)
+cell_room (suc (suc (suc zero))) p h = omega (arith, p.small)
+cell_room (suc (suc (suc (suc w)))) p h = absurd (omega arith)
+
+-- the part that a number is read from
+pub length-part : (s : List ℕ) (at n : ℕ) → at + n ≤ length s → length (take (at + n - at) (drop at s)) ≡ n
+length-part s at n h = simp (length-take, length-drop) (omega arith)
+
+pub part_byte : (s : List ℕ) (at n k : ℕ) → k < n → get_or (take (at + n - at) (drop at s)) k 0 ≡ get_or s (at + k) 0
+part_byte s at n k h = get_or-take (at + n - at) (drop at s) k 0 (omega arith) ∙ get_or-drop at s k 0
 
 -- the same cell, its width by another name
 pub cell_of : (w : ℕ) {v : ℕ} {s : List ℕ} {at r : ℕ} → Cell w s at r → v ≡ w → Cell v s at r
@@ -66,6 +89,29 @@ be_bytes_cat a (suc b) v = rw (add-suc, be_bytes_cat a b (v / 256), div-div-eq-d
 pub sets_cat : (l : List ℕ) (i : ℕ) (xs ys : List ℕ) → sets (sets l i xs) (i + length xs) ys ≡ sets l i (xs ++ ys)
 sets_cat l i [] ys = rw add-zero
 sets_cat l i (x ∷ xs) ys = rw (add-suc, ← suc-add) (sets_cat (set l i x) (suc i) xs ys)
+
+-- writes to different places change places
+set_swap : (l : List ℕ) (i j x y : ℕ) → (i ≡ j → ⊥) → set (set l i x) j y ≡ set (set l j y) i x
+set_swap [] i j x y h = refl
+set_swap (a ∷ l) zero zero x y h = absurd (h refl)
+set_swap (a ∷ l) zero (suc j) x y h = refl
+set_swap (a ∷ l) (suc i) zero x y h = refl
+set_swap (a ∷ l) (suc i) (suc j) x y h = ap (λ m. a ∷ m) (set_swap l i j x y (λ e. h (ap suc e)))
+
+sets_late : (l : List ℕ) (at j x : ℕ) (xs : List ℕ) → at + length xs ≤ j → sets (set l j x) at xs ≡ set (sets l at xs) j x
+sets_late l at j x [] h = refl
+sets_late l at j x (y ∷ ys) h = rw (set_swap l j at x y (λ e. omega arith)) (sets_late (set l at y) (suc at) j x ys (omega arith))
+
+-- the last byte first
+pub put_last : (l : List ℕ) (at w i v : ℕ) → i ≡ w + 1 → sets (set l (at + w) (v % 256)) at (be_bytes w (v / 256)) ≡ sets l at (be_bytes i v)
+unfolding be_bytes
+put_last l at w zero v e = absurd (omega arith)
+put_last l at w (suc i) v e =
+    let q : i ≡ w = omega arith in
+    let n = length-be_bytes w (v / 256) in
+    rw q (sets_late l at (at + w) (v % 256) (be_bytes w (v / 256)) (rw n (omega arith))
+    ∙ ap (λ k. set (sets l at (be_bytes w (v / 256))) (at + k) (v % 256)) (sym n)
+    ∙ sets_cat l at (be_bytes w (v / 256)) (v % 256 ∷ []))
 
 -- two writes side by side are one
 pub wrote_cat : {l m n xs ys : List ℕ} {i k : ℕ} → Wrote l i xs m → Wrote m k ys n → k ≡ i + length xs

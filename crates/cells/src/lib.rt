@@ -8,25 +8,17 @@ ghost use Rattle.std.proofs.Common.{of_z};
 ghost use Rattle.cells.specs.Be.{be_bytes, Cell, Wrote};
 ghost use Rattle.cells.specs.Sign.{sign, signed_at, signed_bytes, Size};
 
-pub fn u8_at(s: &[u8], at: usize) -> u32
-    requires { at + 1 ≤ length s.now }
-    ensures { Cell 1 s.now at result }
+// The number in the N bytes from `at` on.
+pub fn number_at<const N: usize>(s: &[u8], at: usize) -> u32
+    requires few { N ≤ 4 }
+    requires in_bounds { at + N ≤ length s.now }
+    ensures { Cell N s.now at result }
 {
-    s[at] as u32
-}
-
-pub fn u16_at(s: &[u8], at: usize) -> u32
-    requires { at + 2 ≤ length s.now }
-    ensures { Cell 2 s.now at result }
-{
-    u8_at(s, at) * 256 + u8_at(s, at + 1)
-}
-
-pub fn u32_at(s: &[u8], at: usize) -> u32
-    requires { at + 4 ≤ length s.now }
-    ensures { Cell 4 s.now at result }
-{
-    u16_at(s, at) * 65536 + u16_at(s, at + 2)
+    let mut n = 0;
+    for b in &s[at..at + N] {
+        n = n * 256 + u32::from(*b);
+    }
+    n
 }
 
 // A map's entry has 1 to 4 bytes.
@@ -35,39 +27,24 @@ pub fn entry_at(s: &[u8], at: usize, size: usize) -> u32
     requires size_in_bounds { at + size ≤ length s.now }
     ensures { Cell size s.now at result }
 {
-    if size == 1 {
-        u8_at(s, at)
-    } else if size == 2 {
-        u16_at(s, at)
-    } else if size == 3 {
-        u16_at(s, at) * 256 + u8_at(s, at + 2)
-    } else {
-        u32_at(s, at)
+    match size {
+        1 => number_at::<1>(s, at),
+        2 => number_at::<2>(s, at),
+        3 => number_at::<3>(s, at),
+        _ => number_at::<4>(s, at),
     }
 }
 
-// The writers take any number, and write its low bytes.
-pub fn put_u8(out: &mut [u8], at: usize, v: u32)
-    requires { at + 1 ≤ length out.old }
-    ensures { Wrote out.old at (be_bytes 1 v) out.new }
+// Writes the low N bytes of any number.
+pub fn put_number<const N: usize>(out: &mut [u8], at: usize, v: u32)
+    requires { at + N ≤ length out.old }
+    ensures { Wrote out.old at (be_bytes N v) out.new }
 {
-    out[at] = (v % 256) as u8;
-}
-
-pub fn put_u16(out: &mut [u8], at: usize, v: u32)
-    requires { at + 2 ≤ length out.old }
-    ensures { Wrote out.old at (be_bytes 2 v) out.new }
-{
-    put_u8(out, at, v / 256);
-    put_u8(out, at + 1, v);
-}
-
-pub fn put_u32(out: &mut [u8], at: usize, v: u32)
-    requires { at + 4 ≤ length out.old }
-    ensures { Wrote out.old at (be_bytes 4 v) out.new }
-{
-    put_u16(out, at, v / 65536);
-    put_u16(out, at + 2, v);
+    let mut left = v;
+    for i in (0..N).rev() {
+        out[at + i] = (left % 256) as u8;
+        left /= 256;
+    }
 }
 
 pub fn put_entry(out: &mut [u8], at: usize, size: usize, v: u32)
@@ -75,15 +52,11 @@ pub fn put_entry(out: &mut [u8], at: usize, size: usize, v: u32)
     requires size_in_bounds { at + size ≤ length out.old }
     ensures { Wrote out.old at (be_bytes size v) out.new }
 {
-    if size == 1 {
-        put_u8(out, at, v);
-    } else if size == 2 {
-        put_u16(out, at, v);
-    } else if size == 3 {
-        put_u16(out, at, v / 256);
-        put_u8(out, at + 2, v);
-    } else {
-        put_u32(out, at, v);
+    match size {
+        1 => put_number::<1>(out, at, v),
+        2 => put_number::<2>(out, at, v),
+        3 => put_number::<3>(out, at, v),
+        _ => put_number::<4>(out, at, v),
     }
 }
 
@@ -106,19 +79,12 @@ pub fn cell(s: &[u8], at: usize, size: usize) -> i32
     ensures { result ≡ signed_at size s.now at }
 {
     if size == 1 {
-        signed(u8_at(s, at), 128)
+        signed(number_at::<1>(s, at), 128)
     } else if size == 2 {
-        signed(u16_at(s, at), 32768)
+        signed(number_at::<2>(s, at), 32768)
     } else {
-        signed(u32_at(s, at), 2147483648)
+        signed(number_at::<4>(s, at), 2147483648)
     }
-}
-
-// The 32 bits of a number.
-pub fn bits(v: i32) -> u32
-    ensures { result ≡ of_z w32 v }
-{
-    if v < 0 { !(!v as u32) } else { v as u32 }
 }
 
 pub fn put_cell(out: &mut [u8], at: usize, size: usize, v: i32)
@@ -127,11 +93,11 @@ pub fn put_cell(out: &mut [u8], at: usize, size: usize, v: i32)
     ensures { Wrote out.old at (signed_bytes size v) out.new }
 {
     if size == 1 {
-        put_u8(out, at, bits(v));
+        put_number::<1>(out, at, v.cast_unsigned());
     } else if size == 2 {
-        put_u16(out, at, bits(v));
+        put_number::<2>(out, at, v.cast_unsigned());
     } else {
-        put_u32(out, at, bits(v));
+        put_number::<4>(out, at, v.cast_unsigned());
     }
 }
 

@@ -21,7 +21,7 @@ pub fn bad_header(t: &[u8], maps: usize) -> bool
     if t.len() < 8 + 4 * maps {
         return true;
     }
-    cells::u16_at(t, 0) != 1
+    cells::number_at::<2>(t, 0) != 1
 }
 
 pub fn read_delta(store: &[u8], outer: u32, inner: u32, column: u32) -> Delta

@@ -40,9 +40,9 @@ fn entry_count(s: &[u8], at: usize, format: u32) -> u32
     ensures { result ≡ pick (eqb format 0) (be 2 s.now (at + 2)) (be 4 s.now (at + 2)) }
 {
     if format == 0 {
-        cells::u16_at(s, at + 2)
+        cells::number_at::<2>(s, at + 2)
     } else {
-        cells::u32_at(s, at + 2)
+        cells::number_at::<4>(s, at + 2)
     }
 }
 
@@ -54,11 +54,11 @@ pub fn bad_map(s: &[u8], at: usize) -> bool
     if s.len() < at + 2 {
         return true;
     }
-    let format = cells::u8_at(s, at);
+    let format = cells::number_at::<1>(s, at);
     if format > 1 {
         return true;
     }
-    let packed = cells::u8_at(s, at + 1) as usize;
+    let packed = cells::number_at::<1>(s, at + 1) as usize;
     let size = packed / 16 % 4 + 1;
     if 8 * size < packed % 16 + 1 {
         return true;
@@ -90,8 +90,8 @@ impl<'a> Map<'a> {
         requires { bad_map bytes.now at ≡ false }
         ensures { (result.bytes.now ≡ bytes.now) × (result.shape.at ≡ at) }
     {
-        let format = cells::u8_at(bytes, at);
-        let packed = cells::u8_at(bytes, at + 1) as usize;
+        let format = cells::number_at::<1>(bytes, at);
+        let packed = cells::number_at::<1>(bytes, at + 1) as usize;
         let shape = MapShape {
             at,
             entries: at + head_length(format),

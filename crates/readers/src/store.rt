@@ -32,10 +32,10 @@ fn bad_store(s: &[u8]) -> bool
     if s.len() < 8 {
         return true;
     }
-    if cells::u16_at(s, 0) != 1 {
+    if cells::number_at::<2>(s, 0) != 1 {
         return true;
     }
-    let count = cells::u16_at(s, 6);
+    let count = cells::number_at::<2>(s, 6);
     if count > 256 {
         return true;
     }
@@ -47,15 +47,15 @@ fn bad_regions(s: &[u8]) -> bool
     requires { bad_store s.now ≡ false }
     ensures { result ≡ bad_regions s.now }
 {
-    let at = cells::u32_at(s, 2) as usize;
+    let at = cells::number_at::<4>(s, 2) as usize;
     if s.len() < at + 4 {
         return true;
     }
-    let count = cells::u16_at(s, at + 2);
+    let count = cells::number_at::<2>(s, at + 2);
     if count > 4096 {
         return true;
     }
-    let record = 6 * (cells::u16_at(s, at) as usize);
+    let record = 6 * (cells::number_at::<2>(s, at) as usize);
     s.len() < at + 4 + (count as usize) * record
 }
 
@@ -79,7 +79,7 @@ impl<'a> Store<'a> {
         ensures value { result ≡ subtable_count self.now.bytes.now }
         ensures upper_bound { result ≤ 256 }
     {
-        cells::u16_at(self.bytes, 6) as usize
+        cells::number_at::<2>(self.bytes, 6) as usize
     }
 
     // The region list, where its offset isn't 0.
@@ -87,7 +87,7 @@ impl<'a> Store<'a> {
         ensures { RegionsOpening self.now.bytes.now result }
     {
         let bytes = self.bytes;
-        let at = cells::u32_at(bytes, 2) as usize;
+        let at = cells::number_at::<4>(bytes, 2) as usize;
         if at == 0 {
             return Ok(None);
         }
@@ -97,8 +97,8 @@ impl<'a> Store<'a> {
         Ok(Some(Regions {
             store: *self,
             at,
-            axes: cells::u16_at(bytes, at) as usize,
-            count: cells::u16_at(bytes, at + 2) as usize,
+            axes: cells::number_at::<2>(bytes, at) as usize,
+            count: cells::number_at::<2>(bytes, at + 2) as usize,
         }))
     }
 }

@@ -72,16 +72,16 @@ fn bad_subtable(s: &[u8], at: usize) -> bool
     if s.len() < at + 6 {
         return true;
     }
-    let field = cells::u16_at(s, at + 2) as usize;
+    let field = cells::number_at::<2>(s, at + 2) as usize;
     let words = field % 32768;
-    let columns = cells::u16_at(s, at + 4) as usize;
+    let columns = cells::number_at::<2>(s, at + 4) as usize;
     if columns < words {
         return true;
     }
     if columns > 4096 {
         return true;
     }
-    let items = cells::u16_at(s, at) as usize;
+    let items = cells::number_at::<2>(s, at) as usize;
     let row = row_length(32768 <= field, words, columns);
     s.len() < at + 6 + 2 * columns + items * row
 }
@@ -95,11 +95,11 @@ impl<'a> Store<'a> {
         ensures { (result.bytes.now ≡ self.now.bytes.now) × Whole self.now.bytes.now at result.shape }
     {
         let bytes = self.bytes;
-        let field = cells::u16_at(bytes, at + 2) as usize;
+        let field = cells::number_at::<2>(bytes, at + 2) as usize;
         let words = field % 32768;
-        let columns = cells::u16_at(bytes, at + 4) as usize;
+        let columns = cells::number_at::<2>(bytes, at + 4) as usize;
         let long = 32768 <= field;
-        let items = cells::u16_at(bytes, at) as usize;
+        let items = cells::number_at::<2>(bytes, at) as usize;
         let row = row_length(long, words, columns);
         let rows = at + 6 + 2 * columns;
         let shape = Shape {
@@ -122,7 +122,7 @@ impl<'a> Store<'a> {
         if self.count() <= outer {
             return Err(Refusal::AbsentSubtable);
         }
-        let at = cells::u32_at(bytes, 8 + 4 * outer) as usize;
+        let at = cells::number_at::<4>(bytes, 8 + 4 * outer) as usize;
         if at == 0 {
             return Err(Refusal::AbsentSubtable);
         }
@@ -138,7 +138,7 @@ impl<'a> Store<'a> {
         requires good { bad_subtable self.now.bytes.now (subtable_at self.now.bytes.now outer) ≡ false }
         ensures { (result.bytes.now ≡ self.now.bytes.now) × Whole self.now.bytes.now (subtable_at self.now.bytes.now outer) result.shape }
     {
-        self.subtable_at(cells::u32_at(self.bytes, 8 + 4 * outer) as usize)
+        self.subtable_at(cells::number_at::<4>(self.bytes, 8 + 4 * outer) as usize)
     }
 }
 
@@ -148,7 +148,7 @@ impl<'a> Subtable<'a> {
         ensures value { result ≡ region_index self.now.bytes.now self.now.shape.at column }
         ensures upper_bound { result < 65536 }
     {
-        cells::u16_at(self.bytes, self.shape.at + 6 + 2 * column)
+        cells::number_at::<2>(self.bytes, self.shape.at + 6 + 2 * column)
     }
 
     // The row of an item; an absent one has none.

@@ -30,7 +30,7 @@ fn bad_source(t: &[u8], m: usize) -> bool
     requires { 8 + 4 * (m + 1) ≤ length t.now }
     ensures { result ≡ both (present t.now m) (bad_map t.now (map_at t.now m)) }
 {
-    let at = cells::u32_at(t, 8 + 4 * m) as usize;
+    let at = cells::number_at::<4>(t, 8 + 4 * m) as usize;
     at != 0 && bad_map(t, at)
 }
 
@@ -97,7 +97,7 @@ impl<'a> Sources<'a> {
         requires { m < self.now.maps }
         ensures { IsSource self.now.table.now m result }
     {
-        let at = cells::u32_at(self.table, 8 + 4 * m) as usize;
+        let at = cells::number_at::<4>(self.table, 8 + 4 * m) as usize;
         if at == 0 {
             return Source { map: None };
         }

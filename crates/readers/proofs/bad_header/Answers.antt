@@ -10,4 +10,4 @@ returns-then-t-maps c = search chain
 
 pub returns : goal.returns
 unfolding bad_header header_length major_version
-returns c = rw (← c.u16_at.ensures.is) (search chain)
+returns c = rw (← c.number_at.ensures.is) (search chain)

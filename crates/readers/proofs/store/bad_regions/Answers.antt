@@ -8,29 +8,29 @@ use Rattle.readers.proofs.Fits.{records_fit}
 use borrow.Author.Rules.{rules}
 use Rattle.readers.proofs.store.bad_regions.Goals as goal
 
-pub u32_at-at-requires : goal.u32_at-at-requires
-u32_at-at-requires c = omega (arith, store_inside _ c.requires)
+pub number_at-at-requires-clause-in_bounds : goal.number_at-at-requires-clause-in_bounds
+number_at-at-requires-clause-in_bounds c = omega (arith, store_inside _ c.requires)
 
 pub returns-then-s-at : goal.returns-then-s-at
 unfolding bad_regions regions_at
-returns-then-s-at c = rw (← c.u32_at-at.ensures.is) (search chain)
+returns-then-s-at c = rw (← c.number_at-at.ensures.is) (search chain)
 
 pub returns-then-count-gt4096 : goal.returns-then-count-gt4096
 unfolding bad_regions regions_at region_count
-returns-then-count-gt4096 c = rw (← c.u32_at-at.ensures.is, ← c.u16_at-count.ensures.is) (search chain)
+returns-then-count-gt4096 c = rw (← c.number_at-at.ensures.is, ← c.number_at-count.ensures.is) (search chain)
 
 pub overflow_mul-result : goal.overflow_mul-result
-overflow_mul-result c = omega (arith, records_fit _ _ c.if-count-gt4096.false c.u16_at.ensures.small)
+overflow_mul-result c = omega (arith, records_fit _ _ c.if-count-gt4096.false c.number_at.ensures.small)
 
 pub overflow_add-result-2 : goal.overflow_add-result-2
-overflow_add-result-2 c = omega (arith, records_fit _ _ c.if-count-gt4096.false c.u16_at.ensures.small)
+overflow_add-result-2 c = omega (arith, records_fit _ _ c.if-count-gt4096.false c.number_at.ensures.small)
 
 pub returns : goal.returns
 unfolding bad_regions regions_at region_count record_length axis_count
 returns c = rw (
-  ← c.u32_at-at.ensures.is,
-  ← c.u16_at-count.ensures.is,
-  ← c.u16_at.ensures.is,
+  ← c.number_at-at.ensures.is,
+  ← c.number_at-count.ensures.is,
+  ← c.number_at.ensures.is,
   le-ltb _ _ c.if-s-at.false,
   le-ltb _ _ c.if-count-gt4096.false,
 )

@@ -8,9 +8,9 @@ pub returns-then-s-lt8 : goal.returns-then-s-lt8
 unfolding bad_store
 returns-then-s-lt8 c = search chain
 
-pub returns-then-u16_at-ne1 : goal.returns-then-u16_at-ne1
+pub returns-then-number_at-ne1 : goal.returns-then-number_at-ne1
 unfolding bad_store store_format
-returns-then-u16_at-ne1 c = search chain
+returns-then-number_at-ne1 c = search chain
 
 pub returns-then-count-gt256 : goal.returns-then-count-gt256
 unfolding bad_store store_format subtable_count
@@ -18,4 +18,4 @@ returns-then-count-gt256 c = search chain
 
 pub returns : goal.returns
 unfolding bad_store store_format subtable_count
-returns c = rw (← c.u16_at-count.ensures.is) (search chain)
+returns c = rw (← c.number_at-count.ensures.is) (search chain)

@@ -5,8 +5,8 @@ use Rattle.sources.proofs.named.bad_source.Goals as goal
 
 pub returns-then-at-ne0 : goal.returns-then-at-ne0
 unfolding present map_at
-returns-then-at-ne0 c = rw (← c.u32_at-at.ensures.is) (search chain)
+returns-then-at-ne0 c = rw (← c.number_at-at.ensures.is) (search chain)
 
 pub returns-else-at-ne0 : goal.returns-else-at-ne0
 unfolding present map_at
-returns-else-at-ne0 c = rw (← c.u32_at-at.ensures.is) (search chain)
+returns-else-at-ne0 c = rw (← c.number_at-at.ensures.is) (search chain)

@@ -7,19 +7,19 @@ use Rattle.readers.proofs.store.Store.subtable.Goals as goal
 pub returns-then-count-outer : goal.returns-then-count-outer
 returns-then-count-outer c = absent_past _ _ c.count.ensures.value c.if-count-outer.true
 
-pub u32_at-at-requires : goal.u32_at-at-requires
-u32_at-at-requires c = omega (arith, c.count.ensures.value, c.if-count-outer.false, store_inside _ c.args.self.now.sound)
+pub number_at-at-requires-clause-in_bounds : goal.number_at-at-requires-clause-in_bounds
+number_at-at-requires-clause-in_bounds c = omega (arith, c.count.ensures.value, c.if-count-outer.false, store_inside _ c.args.self.now.sound)
 
 pub returns-then-at-eq0 : goal.returns-then-at-eq0
 unfolding subtable_at
-returns-then-at-eq0 c = absent_zero _ _ c.count.ensures.value c.if-count-outer.false c.u32_at-at.ensures.is c.if-at-eq0.true
+returns-then-at-eq0 c = absent_zero _ _ c.count.ensures.value c.if-count-outer.false c.number_at-at.ensures.is c.if-at-eq0.true
 
 pub returns-then-bad_subtable : goal.returns-then-bad_subtable
 unfolding subtable_at
 returns-then-bad_subtable c =
-    bad_there _ _ c.count.ensures.value c.if-count-outer.false c.u32_at-at.ensures.is c.if-at-eq0.false (sym c.bad_subtable.ensures ∙ c.if-bad_subtable.true)
+    bad_there _ _ c.count.ensures.value c.if-count-outer.false c.number_at-at.ensures.is c.if-at-eq0.false (sym c.bad_subtable.ensures ∙ c.if-bad_subtable.true)
 
 pub returns : goal.returns
 unfolding subtable_at
 returns c =
-    (c.subtable_at.ensures.0, usable_there _ _ c.count.ensures.value c.if-count-outer.false c.u32_at-at.ensures.is c.if-at-eq0.false c.subtable_at.ensures.1)
+    (c.subtable_at.ensures.0, usable_there _ _ c.count.ensures.value c.if-count-outer.false c.number_at-at.ensures.is c.if-at-eq0.false c.subtable_at.ensures.1)

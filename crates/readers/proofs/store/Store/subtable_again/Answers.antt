@@ -9,13 +9,13 @@ overflow_mul-outer c = omega (arith, offset_inside _ _ c.args.self.now.sound c.r
 pub overflow_add-outer : goal.overflow_add-outer
 overflow_add-outer c = omega (arith, offset_inside _ _ c.args.self.now.sound c.requires.there)
 
-pub u32_at-requires : goal.u32_at-requires
-u32_at-requires c = omega (arith, offset_inside _ _ c.args.self.now.sound c.requires.there)
+pub number_at-requires-clause-in_bounds : goal.number_at-requires-clause-in_bounds
+number_at-requires-clause-in_bounds c = omega (arith, offset_inside _ _ c.args.self.now.sound c.requires.there)
 
 pub subtable_at-requires : goal.subtable_at-requires
 unfolding subtable_at
-subtable_at-requires c = rw c.u32_at.ensures.is c.requires.good
+subtable_at-requires c = rw c.number_at.ensures.is c.requires.good
 
 pub returns : goal.returns
 unfolding subtable_at
-returns c = rw (← c.u32_at.ensures.is) c.subtable_at.ensures
+returns c = rw (← c.number_at.ensures.is) c.subtable_at.ensures

@@ -7,30 +7,30 @@ use Rattle.readers.proofs.store.Store.subtable_at.Goals as goal
 pub overflow_add-at : goal.overflow_add-at
 overflow_add-at c = omega (arith, head_inside _ _ c.requires)
 
-pub u16_at-field-requires : goal.u16_at-field-requires
-u16_at-field-requires c = omega (arith, head_inside _ _ c.requires)
+pub number_at-field-requires-clause-in_bounds : goal.number_at-field-requires-clause-in_bounds
+number_at-field-requires-clause-in_bounds c = omega (arith, head_inside _ _ c.requires)
 
 pub overflow_add-at-2 : goal.overflow_add-at-2
 overflow_add-at-2 c = omega (arith, head_inside _ _ c.requires)
 
-pub u16_at-columns-requires : goal.u16_at-columns-requires
-u16_at-columns-requires c = omega (arith, head_inside _ _ c.requires)
+pub number_at-columns-requires-clause-in_bounds : goal.number_at-columns-requires-clause-in_bounds
+number_at-columns-requires-clause-in_bounds c = omega (arith, head_inside _ _ c.requires)
 
-pub u16_at-items-requires : goal.u16_at-items-requires
-u16_at-items-requires c = omega (arith, head_inside _ _ c.requires)
+pub number_at-items-requires-clause-in_bounds : goal.number_at-items-requires-clause-in_bounds
+number_at-items-requires-clause-in_bounds c = omega (arith, head_inside _ _ c.requires)
 
 pub row_length-row-requires : goal.row_length-row-requires
-row_length-row-requires c = columns_few _ _ c.requires c.u16_at-field.ensures c.u16_at-columns.ensures
+row_length-row-requires c = columns_few _ _ c.requires c.number_at-field.ensures c.number_at-columns.ensures
 
 pub overflow_add-rows : goal.overflow_add-rows
 overflow_add-rows c = omega (arith, head_inside _ _ c.requires)
 
 pub overflow_add-rows-2 : goal.overflow_add-rows-2
-overflow_add-rows-2 c = omega (arith, head_inside _ _ c.requires, c.u16_at-columns.ensures.small)
+overflow_add-rows-2 c = omega (arith, head_inside _ _ c.requires, c.number_at-columns.ensures.small)
 
 pub invariant_of-result : goal.invariant_of-result
 invariant_of-result c =
-    record { opened = (whole _ _ c.requires c.u16_at-field.ensures c.u16_at-columns.ensures c.u16_at-items.ensures c.row_length-row.ensures).opened }
+    record { opened = (whole _ _ c.requires c.number_at-field.ensures c.number_at-columns.ensures c.number_at-items.ensures c.row_length-row.ensures).opened }
 
 pub returns : goal.returns
-returns c = (refl, whole _ _ c.requires c.u16_at-field.ensures c.u16_at-columns.ensures c.u16_at-items.ensures c.row_length-row.ensures)
+returns c = (refl, whole _ _ c.requires c.number_at-field.ensures c.number_at-columns.ensures c.number_at-items.ensures c.row_length-row.ensures)
