@@ -31,11 +31,28 @@ pub fn read_delta(store: &[u8], outer: u32, inner: u32, column: u32) -> Delta
     Ok(subtable.delta(inner as usize, column as usize))
 }
 
-pub fn read_row<'a>(store: &'a [u8], outer: u32, inner: u32) -> Result<&'a [u8], Refusal>
+pub fn try_read_row<'a>(store: &'a [u8], outer: u32, inner: u32) -> Result<&'a [u8], Refusal>
     ensures { MatchResult result (λ part. row_of store.now outer inner ≡ a_row part.now) (λ r. row_of store.now outer inner ≡ no_row r) }
 {
     let subtable = Store::open(store)?.subtable(outer as usize)?;
     Ok(subtable.row(inner as usize))
+}
+
+// The row as a part of the store, empty beside a refusal's number: the form that document 01 names.
+pub fn read_row<'a>(store: &'a [u8], outer: u32, inner: u32, number: &mut u32) -> &'a [u8]
+    ensures number_after { number.new ≡ (row_of store.now outer inner).number }
+    ensures result_value { result.now ≡ (row_of store.now outer inner).part }
+{
+    match try_read_row(store, outer, inner) {
+        Ok(row) => {
+            *number = 0;
+            row
+        }
+        Err(r) => {
+            *number = u32::from(r);
+            &store[..0]
+        }
+    }
 }
 
 pub fn read_entry(map: &[u8], glyph: u32) -> Entry
