@@ -4,7 +4,6 @@ ghost use Rattle.lists.specs.Pick.{pick};
 ghost use Rattle.rules.specs.Lists.{inner};
 ghost use Rattle.rules.specs.Columns.{kept_deltas};
 ghost use Rattle.laws.specs.Sizes.{size, column_size};
-ghost use Rattle.readers.specs.Opened.{Opened};
 ghost use Rattle.columns.specs.Tally.{number_of_size, Decides};
 
 use readers::subtable::Subtable;
@@ -17,12 +16,6 @@ pub enum Size {
     Short,
     Middle,
     Far,
-}
-
-// What is known of a column after some of its deltas.
-#[derive(Drop)]
-pub struct Column {
-    pub size: Size,
 }
 
 // Most deltas are small, so that test comes first.
@@ -47,15 +40,6 @@ pub fn number(size: Size) -> u32
     size as u32
 }
 
-impl Column {
-    pub fn take(mut self, delta: i32) -> Column
-        ensures { number_of_size result.size ≡ max (number_of_size self.size) (size delta) }
-    {
-        self.size = self.size.max(size_of(delta));
-        self
-    }
-}
-
 // The number of the size at which a column's tally may end, by the bytes of its cells. A cell of 1, 2 or 4 bytes holds no delta of a
 // larger size than number 1, 2 or 4; and where long is kept, a column of cells of 2 bytes is narrow for any delta but 0.
 fn enough(long: bool, cell: usize) -> usize
@@ -65,19 +49,18 @@ fn enough(long: bool, cell: usize) -> usize
 }
 
 // The kept deltas of a column, tallied one after the other until the column is decided.
-pub fn column_size(s: &[u8], t: Subtable, pairs: &[u32], column: usize, long: bool) -> Size
-    requires { Opened s.now t }
-    ensures { Decides long (number_of_size result) (column_size (kept_deltas s.now t.at (map (λ p. inner p) pairs.now) column)) }
+pub fn column_size(t: &Subtable<'_>, pairs: &[u32], column: usize, long: bool) -> Size
+    ensures { Decides long (number_of_size result) (column_size (kept_deltas t.now.bytes.now t.now.shape.at (map (λ p. inner p) pairs.now) column)) }
 {
-    let cell = readers::subtable::cell_size(t.long, t.words, column);
+    let cell = t.shape.cell_size(column);
     let end = enough(long, cell);
-    let mut tally = Column { size: Size::Zero };
+    let mut largest = Size::Zero;
     for pair in pairs {
         let item = (*pair % 65536) as usize;
-        tally = tally.take(readers::subtable::delta_of(s, t, item, column));
-        if number(tally.size) as usize >= end {
+        largest = largest.max(size_of(t.delta(item, column)));
+        if number(largest) as usize >= end {
             break;
         }
     }
-    tally.size
+    largest
 }
