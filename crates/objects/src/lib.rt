@@ -88,12 +88,10 @@ pub fn put_region_list(out: &mut [u8], work: &[u32], s: &[u8], l: Layout)
     requires out_len { length out.old ≡ 4 + l.used * (6 * l.axes) }
     ensures { out.new ≡ region_list_bytes s.now (used_of s.now work.now) }
 {
-    let axes = l.axes;
-    let used = l.used;
-    let end = list_length(used, axes);
-    put_u16(out, 0, axes as u32);
-    put_u16(out, 2, used as u32);
-    put_records(&mut out[4..end], work, s, 6 * axes, l.regions);
+    let end = list_length(l.used, l.axes);
+    put_u16(out, 0, l.axes as u32);
+    put_u16(out, 2, l.used as u32);
+    put_records(&mut out[4..end], work, s, 6 * l.axes, l.regions);
 }
 
 // The subtable of an outer that 5 and 6 let through.

@@ -11,13 +11,13 @@ use Rattle.objects.proofs.put_subtables.Goals.{After-end_of_run-end}
 turn : (c : After-end_of_run-end) → let l = c.loop-at in RunPart c.args.s.now l.work l.out l.at c.end_of_run-end.result l.k l.next
 turn c =
     let l = c.loop-at in
-    going_run c.args.work.now c.requires.passed c.requires.work_len_bound c.requires.work_value (l.invariant.0 ∙ c.requires.passed.area) l.invariant.2 c.end_of_run-end.ensures
+    going_run c.args.work.now c.requires.passed c.requires.work_len_bound c.requires.work_value (l.auto.work ∙ c.requires.passed.area) l.invariant c.end_of_run-end.ensures
 
 pub loop-at-init : goal.loop-at-init
-loop-at-init c = (search rules, search rules, going_first _ _ c.requires.passed c.requires.out_len)
+loop-at-init c = going_first _ _ c.requires.passed c.requires.out_len
 
 pub end_of_run-end-requires-clause-pairs_value : goal.end_of_run-end-requires-clause-pairs_value
-end_of_run-end-requires-clause-pairs_value c = going_climb c.requires.passed c.loop-at.invariant.2
+end_of_run-end-requires-clause-pairs_value c = going_climb c.requires.passed c.loop-at.invariant
 
 pub overflow_add-stop : goal.overflow_add-stop
 overflow_add-stop c = omega (arith, turn c)
@@ -45,8 +45,8 @@ overflow_add-k c = omega (arith, turn (goal.at.overflow_add-k c).After-end_of_ru
 
 pub loop-at-preserved : goal.loop-at-preserved
 loop-at-preserved c = let l = c.loop-at in
-    (search rules, search rules, going_more c.args.work.now c.requires.passed c.requires.work_len_bound c.requires.work_value (l.invariant.0 ∙ c.requires.passed.area) l.invariant.2 c.end_of_run-end.ensures _ refl c.put_run.ensures.work_unchanged c.put_run.ensures.out_after)
+    going_more c.args.work.now c.requires.passed c.requires.work_len_bound c.requires.work_value (l.auto.work ∙ c.requires.passed.area) l.invariant c.end_of_run-end.ensures _ refl c.put_run.ensures.work_unchanged c.put_run.ensures.out_after
 
 pub returns : goal.returns
 returns c = let l = c.loop-at in
-    going_all c.requires.passed l.invariant.2 (search rules)
+    going_all c.requires.passed l.invariant (search rules)
