@@ -5,4 +5,4 @@ pub mod long;
 pub mod tally;
 
 pub use long::keeps_long;
-pub use tally::{Size, column_size};
+pub use tally::{Column, Size, column_size};

@@ -18,6 +18,12 @@ pub enum Size {
     Far,
 }
 
+// What is known of a column after some of its deltas.
+#[derive(Drop)]
+pub struct Column {
+    pub size: Size,
+}
+
 // Most deltas are small, so that test comes first.
 pub fn size_of(delta: i32) -> Size
     ensures { number_of_size result ≡ size delta }
@@ -40,6 +46,15 @@ pub fn number(size: Size) -> u32
     size as u32
 }
 
+impl Column {
+    pub fn take(mut self, delta: i32) -> Column
+        ensures { number_of_size result.size ≡ max (number_of_size self.size) (size delta) }
+    {
+        self.size = self.size.max(size_of(delta));
+        self
+    }
+}
+
 // The number of the size at which a column's tally may end, by the bytes of its cells. A cell of 1, 2 or 4 bytes holds no delta of a
 // larger size than number 1, 2 or 4; and where long is kept, a column of cells of 2 bytes is narrow for any delta but 0.
 fn enough(long: bool, cell: usize) -> usize
@@ -54,13 +69,13 @@ pub fn column_size(t: &Subtable<'_>, pairs: &[u32], column: usize, long: bool) -
 {
     let cell = t.shape.cell_size(column);
     let end = enough(long, cell);
-    let mut largest = Size::Zero;
+    let mut tally = Column { size: Size::Zero };
     for pair in pairs {
         let item = (*pair % 65536) as usize;
-        largest = largest.max(size_of(t.delta(item, column)));
-        if number(largest) as usize >= end {
+        tally = tally.take(t.delta(item, column));
+        if number(tally.size) as usize >= end {
             break;
         }
     }
-    largest
+    tally.size
 }
