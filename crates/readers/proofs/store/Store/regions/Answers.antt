@@ -28,6 +28,7 @@ invariant_of-result c = record {
   sound = sym c.bad_regions.ensures ∙ c.if-bad_regions.false;
   place = c.number_at-at.ensures.is;
   axis_count = rw (← c.number_at-at.ensures.is) c.number_at.ensures.is;
+  axes_bound = omega (arith, c.number_at.ensures.small);
   region_count = rw (← c.number_at-at.ensures.is) c.number_at-2.ensures.is;
 }
 
