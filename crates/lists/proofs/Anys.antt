@@ -1,8 +1,8 @@
--- Laws of `any` and `some`: over a list put together, over a selection, and for two tests.
+-- Laws of `any` and `some`: over a list put together or mapped, over a selection, and for two tests.
 use Prim.Native.Nat.{ℕ, zero, suc}
 use mathlib.Core.Path.{◌≡◌, refl, sym, ◌∙◌}
 use mathlib.Core.Bool.{Bool, true, false}
-use mathlib.Core.List.{List, [], ◌∷◌, ◌++◌}
+use mathlib.Core.List.{List, [], ◌∷◌, ◌++◌, map}
 use native.Mathlib.Omega.{arith}
 use lib.ListN.{length}
 use lib.Dec.{ltb}
@@ -19,6 +19,11 @@ any_append f (x ∷ xs) ys = rw (any_append f xs ys) (three (f x) (any f xs) (an
     three : (a b c : Bool) → pick a true (pick b true c) ≡ pick (pick a true b) true c
     three true b c = refl
     three false b c = refl
+
+pub any-map : {A B : Type 0} (g : B → Bool) (f : A → B) (xs : List A) → any g (map f xs) ≡ any (λ x. g (f x)) xs
+unfolding any
+any-map g f [] = refl
+any-map g f (x ∷ xs) = rw (any-map g f xs)
 
 -- there is an element
 pub any_there : {A : Type 0} (xs : List A) → any (λ x. true) xs ≡ ltb 0 (length xs)

@@ -18,7 +18,6 @@ pub mod Stands
 pub mod Gathered
 pub mod Selected
 pub mod Each
-pub mod Left
 pub mod Sifted
 pub mod Sieves
 pub mod Covers

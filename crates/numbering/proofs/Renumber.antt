@@ -4,14 +4,14 @@ use mathlib.Core.Path.{◌≡◌, sym, ◌∙◌}
 use mathlib.Core.Bool.{true}
 use mathlib.Core.List.{List}
 use native.Mathlib.Omega.{arith}
-use lib.ListN.{length, get_or, take, drop}
-use lib.Seq.{length-take-le}
+use lib.ListN.{length, get_or, take, drop, length-drop}
+use lib.Seq.{length-take-le, take_all}
 use Rattle.lists.specs.Search.{place}
 use Rattle.lists.proofs.Selects.{rank_le}
 use Rattle.lists.proofs.Places.{at_place}
 use Rattle.rules.specs.Lists.{runs}
 use Rattle.rules.specs.Numbering.{new_inner}
-use Rattle.readers.specs.declared.map.Pair.{Pair}
+use Rattle.rules.specs.declared.Pair.{Pair}
 use Rattle.numbering.specs.Numbered.{used, Numbered, Among, Renumbered}
 use Rattle.numbering.proofs.Starts.{start_inside, start_place, inner-place, inner_short, used-member, outer-rank}
 
@@ -25,7 +25,7 @@ module _ {w : List ℕ} {n : ℕ} {p : Pair} (k : Numbered w n) (a : Among (take
   pub outer_low : p.outer < 256
   outer_low = k.low p.outer its_used
 
-  size : length (take n w) ≡ n
+  pub size : length (take n w) ≡ n
   size = length-take-le n w (omega (arith, k.long, k.few))
 
   pub start_low : get_or w (8192 + p.outer) 0 ≤ n
@@ -37,6 +37,14 @@ module _ {w : List ℕ} {n : ℕ} {p : Pair} (k : Numbered w n) (a : Among (take
 
   pub place_behind : place (p.outer * 65536 + p.inner) (take n w) ≡ get_or w (8192 + p.outer) 0 + place (p.outer * 65536 + p.inner) (drop (get_or w (8192 + p.outer) 0) (take n w))
   place_behind = rw (k.starts p.outer its_used) (rw its_outer at (start_place 0 (p.outer * 65536 + p.inner) (take n w) k.climbs))
+
+  -- as a walk from the start of its run finds it
+  pub place_walked : {at : ℕ} → at ≡ place (p.outer * 65536 + p.inner) (take (length (take n w) - get_or w (8192 + p.outer) 0) (drop (get_or w (8192 + p.outer) 0) (take n w)))
+      → get_or w (8192 + p.outer) 0 + at ≡ place (p.outer * 65536 + p.inner) (take n w)
+  place_walked e =
+      let start = get_or w (8192 + p.outer) 0 in
+      let all = take_all (length (take n w) - start) (drop start (take n w)) (omega (arith, length-drop start (take n w))) in
+      omega (arith, rw all at e, place_behind)
 
   pub renumber : {r : Pair} → r.outer ≡ get_or w (8448 + p.outer) 0 → r.inner ≡ place (p.outer * 65536 + p.inner) (take n w) - get_or w (8192 + p.outer) 0
       → Renumbered (take n w) (p.outer * 65536 + p.inner) r

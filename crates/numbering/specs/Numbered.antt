@@ -5,9 +5,8 @@ use Rattle.lists.specs.Search.{member}
 use Rattle.rules.specs.Lists.{outer, twice, runs, most_glyphs}
 use Rattle.rules.specs.Open.{most_subtables}
 use Rattle.rules.specs.Numbering.{named_pairs, bad_outer, new_outer, new_inner}
-use Rattle.rules.specs.TableCut.{bad_maps}
 use Rattle.laws.specs.Outers.{Climbs}
-use Rattle.readers.specs.declared.map.Pair.{Pair}
+use Rattle.rules.specs.declared.Pair.{Pair}
 
 -- how many of the pairs have a lower outer: where the outer's run starts
 unfoldable pub start_of : List ℕ → ℕ → ℕ
@@ -39,12 +38,11 @@ pub record Renumbered (ps : List ℕ) (pair : ℕ) (r : Pair) : Type 0 where
   pub few : r.outer < 256
   pub short : r.inner < 8192
 
--- what the checks up to 13 have let through: a table with so many maps over a store with so many subtables, and a list of glyphs
+-- what the checks up to 13 have let through: a table with so many maps over a store with so many subtables, and a list of glyphs.
+-- That the maps lie inside and can be used is what their `Sources` say
 pub record Checked (maps count : ℕ) (t es : List ℕ) : Type 0 where
   pub some : 0 < maps
   pub most : maps ≤ 4
-  pub head : 8 + 4 * maps ≤ length t
-  pub usable : bad_maps maps t ≡ false
   pub short : length es ≤ most_glyphs
   pub few : count ≤ most_subtables
   pub named : bad_outer count (named_pairs maps t es) ≡ false

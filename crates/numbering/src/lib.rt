@@ -6,12 +6,12 @@
 //   12,288   by slot, modulo 4,096, the place of the first pair in it
 #![tactic(auto)]
 
-ghost use Rattle.std.specs.Prelude.{◌≡◌, false, ◌+◌, ◌*◌, ◌≤◌, ◌<◌, length, take, drop};
+ghost use Rattle.std.specs.Prelude.{◌≡◌, false, ◌+◌, ◌*◌, ◌≤◌, ◌<◌, IfSome, take};
 ghost use Rattle.lists.specs.Search.{place};
 ghost use Rattle.rules.specs.Lists.{outer, twice};
 ghost use Rattle.numbering.specs.Numbered.{Among, Numbered, Renumbered};
 
-use readers::map::Pair;
+use rules::{Pair, WorkArea};
 
 // The segment that a pair would begin behind the last one: in the same outer, that is the second of outer 0.
 fn segment_at(last: u32, pair: u32) -> usize
@@ -19,9 +19,10 @@ fn segment_at(last: u32, pair: u32) -> usize
     ensures { result ≤ 256 }
 {
     if last / 65536 == pair / 65536 {
-        return 256;
+        256
+    } else {
+        (pair / 65536) as usize
     }
-    (pair / 65536) as usize
 }
 
 // A pair's slot in its segment.
@@ -33,16 +34,14 @@ fn spot_of(pair: u32, shift: u32) -> usize
 }
 
 // Where a pair's segment starts. If the pair begins one, that is behind the last pair's slot, and is noted.
-fn segment_start(work: &mut [u32], start: usize, slot: usize, last: u32, pair: u32) -> usize
-    requires { (length work.old ≡ 16384) × (start ≤ slot) × (slot ≤ 536870912) × (outer pair < 256) }
+fn segment_start(work: &mut WorkArea, start: usize, slot: usize, last: u32, pair: u32) -> usize
+    requires { (start ≤ slot) × (slot ≤ 536870912) × (outer pair < 256) }
     ensures upper_bound { result ≤ slot + 1 }
     ensures work_unchanged { take 9088 work.new ≡ take 9088 work.old }
 {
     let segment = segment_at(last, pair);
-    if segment == 256 {
-        if last < pair {
-            return start;
-        }
+    if segment == 256 && last < pair {
+        return start;
     }
     let next = slot + 1;
     work[9088 + segment] = next as u32;
@@ -50,8 +49,8 @@ fn segment_start(work: &mut [u32], start: usize, slot: usize, last: u32, pair: u
 }
 
 // Notes that the pair at k stands in a slot, if it is the first there: if the last one stands in another.
-fn note_place(work: &mut [u32], last: usize, slot: usize, k: usize)
-    requires { (length work.old ≡ 16384) × (k < 8192) }
+fn note_place(work: &mut WorkArea, last: usize, slot: usize, k: usize)
+    requires { k < 8192 }
     ensures { take 9088 work.new ≡ take 9088 work.old }
 {
     if slot != last {
@@ -60,25 +59,24 @@ fn note_place(work: &mut [u32], last: usize, slot: usize, k: usize)
 }
 
 // Makes the index of the n kept pairs, a slot for 2^shift inners; gives the last slot. They start at 1.
-fn index_by(work: &mut [u32], n: usize, shift: u32) -> usize
+fn index_by(work: &mut WorkArea, n: usize, shift: u32) -> usize
     requires numbered { Numbered work.old n }
     requires shift_bound { shift < 16 }
     ensures upper_bound { result ≤ 536870912 }
     ensures work_unchanged { take 9088 work.new ≡ take 9088 work.old }
 {
     work[9345] = shift;
-    let mut last: u32 = 4294967295;
+    // No pair has this one's outer, so the first begins a segment.
+    let mut last = u32::MAX;
     let mut start = 0;
     let mut slot = 0;
-    let mut k = 0;
-    while k < n {
+    for k in 0..n {
         let pair = work[k];
         start = segment_start(work, start, slot, last, pair);
         let next = start + spot_of(pair, shift);
         note_place(work, slot, next, k);
         slot = next;
         last = pair;
-        k += 1;
     }
     slot
 }
@@ -92,7 +90,7 @@ fn shift_for(slots: usize) -> u32
 }
 
 // Makes the index. Past 4,096 slots would stand on others: then a slot is for several inners.
-pub fn index(work: &mut [u32], n: usize)
+pub fn index(work: &mut WorkArea, n: usize)
     requires { Numbered work.old n }
     ensures { take 9088 work.new ≡ take 9088 work.old }
 {
@@ -106,8 +104,8 @@ pub fn index(work: &mut [u32], n: usize)
 }
 
 // Where a pair stands by the index, if it stands in the segment: there, or a little behind where a slot is for several inners.
-fn guess(work: &[u32], segment: usize, inner: u32) -> usize
-    requires { (length work.now ≡ 16384) × (segment ≤ 256) × (inner < 65536) }
+fn guess(work: &WorkArea, segment: usize, inner: u32) -> usize
+    requires { (segment ≤ 256) × (inner < 65536) }
     ensures { result ≤ 4294967295 }
 {
     let spot = spot_of(inner, work[9345] % 16);
@@ -115,68 +113,53 @@ fn guess(work: &[u32], segment: usize, inner: u32) -> usize
     work[12288 + slot] as usize
 }
 
-// The check of a guess: the place of a number that stands at h or less than 32 behind it, with lesser ones between; n where it doesn't.
-// No number stands twice among the first n, so where it is found is its place.
-fn place_near(list: &[u32], n: usize, h: usize, x: u32) -> usize
-    requires n_in_bounds { (n ≤ length list.now) × (twice (take n list.now) ≡ false) }
+// The check of a guess: the place of a number that stands at h or less than 32 behind it, with lesser ones between.
+// No number stands twice, so where it is found is its place.
+fn place_near(list: &[u32], h: usize, x: u32) -> Option<usize>
+    requires list_value { twice list.now ≡ false }
     requires h_bound { h ≤ 4294967295 }
-    ensures { result < n → result ≡ place x (take n list.now) }
+    ensures { IfSome result (λ i. i ≡ place x list.now) }
 {
-    let mut i = h;
-    while i < n {
+    for i in h..list.len().min(h + 32) {
         if list[i] == x {
-            return i;
+            return Some(i);
         }
         if x < list[i] {
-            return n;
+            return None;
         }
-        if h + 31 <= i {
-            return n;
-        }
-        i += 1;
     }
-    n
+    None
 }
 
-// The place of a number among those from one index up to another.
-fn place_among(list: &[u32], from: usize, to: usize, x: u32) -> usize
-    requires { (from ≤ to) × (to ≤ length list.now) }
-    ensures value { result ≡ place x (drop from (take to list.now)) }
-    ensures upper_bound { result ≤ to }
+// The place of a number; the length where it doesn't stand.
+fn place_among(list: &[u32], x: u32) -> usize
+    ensures { result ≡ place x list.now }
 {
-    let mut i = from;
-    while i < to {
-        if list[i] == x {
-            return i - from;
-        }
-        i += 1;
-    }
-    i - from
+    list.iter().position(|y| x == *y).unwrap_or(list.len())
 }
 
 // The place of a kept pair in the list: by the first of the two guesses that holds, or else what a walk through its run finds.
-fn place_of(work: &[u32], n: usize, p: Pair) -> usize
+fn place_of(work: &WorkArea, n: usize, p: Pair) -> usize
     requires numbered { Numbered work.now n }
     requires among { Among (take n work.now) p }
     ensures { result ≡ place (p.outer * 65536 + p.inner) (take n work.now) }
 {
+    let kept = &work[..n];
     let outer = p.outer as usize;
     let inner = p.inner;
     let pair = p.outer * 65536 + p.inner;
-    let first = place_near(work, n, guess(work, outer, inner), pair);
-    if first < n {
+    if let Some(first) = place_near(kept, guess(work, outer, inner), pair) {
         return first;
     }
-    let second = place_near(work, n, guess(work, 256, inner), pair);
-    if second < n {
+    if let Some(second) = place_near(kept, guess(work, 256, inner), pair) {
         return second;
     }
     let from = work[8192 + outer] as usize;
-    from + place_among(work, from, n, pair)
+    from + place_among(&kept[from..], pair)
 }
 
 // A kept pair's new outer and new inner: the number of its outer's run, and its place in it.
-pub fn renumbered(work: &[u32], n: usize, p: Pair) -> Pair
+pub fn renumbered(work: &WorkArea, n: usize, p: Pair) -> Pair
     requires numbered { Numbered work.now n }
     requires among { Among (take n work.now) p }
     ensures { Renumbered (take n work.now) (p.outer * 65536 + p.inner) result }

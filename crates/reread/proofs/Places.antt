@@ -10,7 +10,7 @@ use borrow.Author.Tests.{eq-eqb, eqb-true}
 use Rattle.lists.specs.Gather.{keep, select}
 use Rattle.lists.specs.Search.{member, place}
 use Rattle.lists.proofs.Each.{any_at, get_d_map}
-use Rattle.lists.proofs.Left.{any-map}
+use Rattle.lists.proofs.Anys.{any-map}
 use Rattle.lists.proofs.Members.{member_at}
 use Rattle.lists.proofs.Places.{at_place, place-select, length-select}
 use Rattle.lists.proofs.Ascending.{rising_select}

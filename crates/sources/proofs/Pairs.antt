@@ -26,8 +26,7 @@ use Rattle.readers.specs.declared.map.MapShape.{MapShape}
 use Rattle.readers.specs.Opened.{OpenedMap}
 use Rattle.sources.specs.declared.named.Source.{Source}
 use Rattle.sources.specs.Pairs.{pair_at, pairs_at, pair_in, pair_through, pairs_in, IsSource, Paired}
-use Rattle.lists.proofs.Anys.{any_append}
-use Rattle.lists.proofs.Left.{any-map}
+use Rattle.lists.proofs.Anys.{any_append, any-map}
 
 -- ---- one pair
 

@@ -8,9 +8,3 @@ index_by-requires-clause-numbered c = indexed_kept c.requires c.index_by-slots.e
 
 pub index_by-requires-then-index_by-gt4096-clause-numbered : goal.index_by-requires-then-index_by-gt4096-clause-numbered
 index_by-requires-then-index_by-gt4096-clause-numbered c = indexed_kept c.requires (c.index_by.ensures.work_unchanged ∙ c.index_by-slots.ensures.work_unchanged) (search rules)
-
-pub returns-then-index_by-gt4096 : goal.returns-then-index_by-gt4096
-returns-then-index_by-gt4096 c = c.index_by-then-index_by-gt4096.ensures.work_unchanged ∙ (c.index_by.ensures.work_unchanged ∙ c.index_by-slots.ensures.work_unchanged)
-
-pub returns-else-index_by-gt4096 : goal.returns-else-index_by-gt4096
-returns-else-index_by-gt4096 c = c.index_by.ensures.work_unchanged ∙ c.index_by-slots.ensures.work_unchanged

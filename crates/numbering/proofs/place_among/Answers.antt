@@ -1,12 +1,12 @@
-use Rattle.lists.proofs.Left.{place_found, place_more, place_end}
-use native.Mathlib.Omega.{arith}
+use mathlib.Core.Path.{◌∙◌}
+use lib.Dec.{eqb}
+use Rattle.std.proofs.Common.{rules, tests}
+use Rattle.std.proofs.lemmas.Iterator.{YieldsList-from_slice}
+use Rattle.std.proofs.lemmas.Iterator.Search.{position_from_yields_List}
+use Rattle.lists.proofs.Chains.{position-place}
 use Rattle.numbering.proofs.place_among.Goals as goal
 
-pub returns-then-list-i : goal.returns-then-list-i
-returns-then-list-i c = record { value = omega (arith, place_found c.args.x c.args.list.now c.args.to c.requires.1 c.loop-i.i c.loop-i-test.true c.if-list-i.true); upper_bound = omega arith }
-
-pub loop-i-preserved : goal.loop-i-preserved
-loop-i-preserved c = omega (arith, place_more c.args.x c.args.list.now c.args.to c.requires.1 c.loop-i.i c.loop-i-test.true c.if-list-i.false)
-
 pub returns : goal.returns
-returns c = record { value = omega (arith, place_end c.args.x c.args.list.now c.args.to c.requires.1 c.loop-i.i c.loop-i-test.false); upper_bound = omega arith }
+returns c =
+    let p = position_from_yields_List (λ y. eqb c.args.x y) _ _ _ c.position.ensures.ran (YieldsList-from_slice c.args.list.now cc) (λ x b q k. search (rules, tests)) in
+    c.unwrap_or.ensures ∙ rw p (position-place c.args.x c.args.list.now)
