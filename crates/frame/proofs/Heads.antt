@@ -1,29 +1,16 @@
--- The header as it is laid: the version, read as a number and written again, is copied.
-use Prim.Native.Nat.{ℕ, zero, suc, ◌+◌, ◌-◌, ◌*◌, ◌≤◌, ◌<◌}
-use mathlib.Core.Path.{◌≡◌, refl, ap, ◌∙◌}
+-- The header as it is laid.
+use Prim.Native.Nat.{ℕ, ◌+◌, ◌-◌, ◌*◌, ◌≤◌}
+use mathlib.Core.Path.{◌≡◌, refl, ◌∙◌}
 use mathlib.Core.List.{List, ◌++◌}
 use native.Mathlib.Omega.{arith}
-use native.Mathlib.Nat.{zero-add}
-use lib.Arith.{digits_div, digits_mod}
-use lib.ListN.{length, get_or, take, drop, replicate, length-append, length-replicate}
-use lib.Seq.{take-suc, length-take-le}
+use lib.ListN.{length, take, drop, replicate, length-append, length-replicate}
+use lib.Seq.{length-take-le}
 use borrow.Rule.Slice.PartMut.{put_mid}
 use Rattle.lists.proofs.Parts.{put_next, all_laid}
-use Rattle.cells.specs.Be.{be, be_bytes, Cell, Wrote}
+use Rattle.cells.specs.Be.{be_bytes, Wrote}
 use Rattle.cells.proofs.Cells.{length-be_bytes, wrote_cat, wrote_all}
 use Rattle.opentype.specs.Table.{header_length}
 use Rattle.rules.specs.TableCut.{null_table}
-
-copied : (w : ℕ) (s : List ℕ) → ((i : ℕ) → get_or s i 0 < 256) → w ≤ length s → be_bytes w (be w s 0) ≡ take w s
-unfolding be be_bytes
-copied zero s small h = refl
-copied (suc w) s small h =
-    rw (zero-add, digits_div (be w s 0) (small w), digits_mod (be w s 0) (small w), copied w s small (omega arith), take-suc s w 0 h)
-
-pub version_copied : {t old m : List ℕ} {v : ℕ} → ((i : ℕ) → get_or t i 0 < 256) → 4 ≤ length t → Cell 4 t 0 v → Wrote old 0 (be_bytes 4 v) m → Wrote old 0 (take 4 t) m
-version_copied {t} small whole cell w =
-    let e = ap (λ (n : ℕ). be_bytes 4 n) cell.is ∙ copied 4 t small whole in
-    rw e at w
 
 module _ (maps : ℕ) (t old : List ℕ) {m : List ℕ} (whole : 4 ≤ length t) (room : 8 + 4 * maps ≤ length old) (version : Wrote old 0 (take 4 t) m) where
   four : length (take 4 t) ≡ 4

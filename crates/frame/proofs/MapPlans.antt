@@ -1,13 +1,13 @@
 -- The plans of a table's maps, one map after the other.
 use Prim.Native.Nat.{ℕ, ◌+◌, ◌<◌, ◌≤◌}
 use mathlib.Core.Path.{◌≡◌, refl, sym, ◌∙◌}
-use mathlib.Core.Bool.{Bool, true, false}
+use mathlib.Core.Bool.{Bool, true, false, ◌||◌}
 use mathlib.Core.List.{List, [], ◌∷◌}
 use native.Mathlib.Omega.{arith}
 use native.Mathlib.Nat.{not-suc-le-zero}
 use native.Mathlib.Decide.{ℕ_discrete}
-use lib.ListN.{length, take, set, length-set}
-use lib.Seq.{get_or-set_same, get_or-set_other}
+use lib.ListN.{length, take, set, length-set, length-take}
+use lib.Seq.{get_or-take, get_or-set_same, get_or-set_other}
 use lib.Dec.{ltb}
 use borrow.Author.Tests.{ltb-false}
 use Rattle.lists.specs.Pick.{pick}
@@ -28,11 +28,12 @@ module _ {maps : ℕ} {t es : List ℕ} {n : ℕ} {w : List ℕ} (c : Collected 
   pub by_rules : {m : ℕ} {p : MapPlan} → MapPlanned t (runs (take n w)) es m p → MapPlanned t (kept_runs maps t es) es m p
   by_rules h = rw c.pairs at h
 
-  pub in_area : {m : ℕ} {p : MapPlan} → MapPlanned t (kept_runs maps t es) es m p → MapPlanned t (runs (take n w)) es m p
-  in_area h = rw c.pairs h
-
   pub same-part : (m : ℕ) → map_bytes t (runs (take n w)) es m ≡ part_at maps t es m
   same-part m = rw c.pairs
+
+-- a plan among those of the maps
+pub plan_among : (plans : List MapPlan) (maps m : ℕ) → m < length (take maps plans) → (m < maps) × (plan_at (take maps plans) m ≡ plan_at plans m)
+plan_among plans maps m h = let l : m < maps = omega (arith, length-take maps plans) in (l, get_or-take maps plans m _ l)
 
 -- ---- the loop that plans them
 
@@ -47,19 +48,25 @@ planned_none maps t es plans l = record {
 
 module _ {maps : ℕ} {t es : List ℕ} {plans : List MapPlan} {wide : Bool} {total k : ℕ} (done : MapsPlanned maps t es plans wide total k) where
   -- one more map, of n bytes
-  pub planned_more : {wide' : Bool} {n : ℕ} {p : MapPlan} → k < 4 → MapPlanned t (kept_runs maps t es) es k p → wide' ≡ pick (ltb 4 p.size) true wide
-      → n ≡ length_of p → n ≤ 393214 → MapsPlanned maps t es (set plans k p) wide' (total + n) (k + 1)
-  planned_more {p = p} h this w l small =
+  pub planned_more : {n : ℕ} {p : MapPlan} → k < 4 → MapPlanned t (kept_runs maps t es) es k p → n ≡ length_of p → n ≤ 393214
+      → MapsPlanned maps t es (set plans k p) (wide || ltb 4 p.size) (total + n) (k + 1)
+  planned_more {p = p} h this l small =
       let part : ℕ → List ℕ = λ m. part_at maps t es m in
       let size = plan_length_lem this in
       record {
         four = rw length-set done.four;
         each = at;
-        entries = w ∙ rw (plan_wide this, done.entries) (sym (some_turn (λ m. wide_entry t (kept_runs maps t es) es m) k refl));
+        entries = last wide (ltb 4 p.size) ∙ rw (plan_wide this, done.entries) (sym (some_turn (λ m. wide_entry t (kept_runs maps t es) es m) k refl));
         bytes = rw gather_length_more (omega (arith, done.bytes));
         short = omega (arith, done.short);
       }
     where
+      last : (a b : Bool) → (a || b) ≡ pick b true a
+      last true true = refl
+      last true false = refl
+      last false true = refl
+      last false false = refl
+
       none : MapPlan
       none = record { written = false; count = 0; bits = 0; size = 0 }
 
@@ -69,9 +76,6 @@ module _ {maps : ℕ} {t es : List ℕ} {plans : List MapPlan} {wide : Bool} {to
             | yes e ↦ rw (e, get_or-set_same plans k p none (omega (arith, done.four))) this
             | no e ↦ rw (get_or-set_other plans k m p none e) (done.each m (omega arith))
           ]
-
-  pub planned_end : k ≡ maps → MapsPlanned maps t es plans wide total maps
-  planned_end e = rw e at done
 
   -- where 14 is not given, for a part of n bytes
   pub planned_narrow : {n : ℕ} → wide ≡ false → n ≡ total → MapsPlanned maps t es plans false n k

@@ -1,5 +1,5 @@
 // The header of a table: the version copied, the store's offset, the maps' offsets.
-ghost use Rattle.std.specs.Prelude.{◌≡◌, ◌++◌, ◌+◌, ◌*◌, ◌≤◌, ◌<◌, ◌^◌, length, take, replicate};
+ghost use Rattle.std.specs.Prelude.{◌≡◌, ◌++◌, ◌+◌, ◌*◌, ◌≤◌, ◌<◌, ◌^◌, length, take};
 ghost use Rattle.lists.specs.Gather.{gather};
 ghost use Rattle.cells.specs.Be.{be_bytes, Wrote};
 ghost use Rattle.opentype.specs.Table.{header_length};
@@ -16,7 +16,7 @@ fn put_version(out: &mut [u8], t: &[u8])
     requires { (4 ≤ length out.old) × (4 ≤ length t.now) }
     ensures { Wrote out.old 0 (take 4 t.now) out.new }
 {
-    cells::put_u32(out, 0, cells::u32_at(t, 0));
+    out[..4].copy_from_slice(&t[..4]);
 }
 
 // The maps start at `first`, behind the store
@@ -31,17 +31,6 @@ pub fn put_header(out: &mut [u8], t: &[u8], plans: [MapPlan; 4], maps: usize, fi
     put_offsets(&mut out[8..head], plans, maps, first);
 }
 
-fn zero(out: &mut [u8], n: usize)
-    requires { length out.old ≡ n }
-    ensures { out.new ≡ replicate n 0 }
-{
-    let mut i = 0;
-    while i < n {
-        out[i] = 0;
-        i += 1;
-    }
-}
-
 // A null store gives version and zeros.
 pub fn cut_null(t: &[u8], maps: usize, out: &mut [u8]) -> Answer
     requires { (maps ≤ 4) × (4 ≤ length t.now) }
@@ -52,6 +41,6 @@ pub fn cut_null(t: &[u8], maps: usize, out: &mut [u8]) -> Answer
         return Answer::Refused(Refusal::ShortOutput);
     }
     put_version(out, t);
-    zero(&mut out[4..head], 4 + 4 * maps);
+    out[4..head].fill(0);
     Answer::Written(head)
 }

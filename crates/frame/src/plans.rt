@@ -1,5 +1,5 @@
 // The maps of a table: their plans, their offsets in the header, and their bytes one after the other.
-ghost use Rattle.std.specs.Prelude.{◌≡◌, true, false, ◌+◌, ◌*◌, ◌≤◌, ◌<◌, ◌^◌, ltb, length};
+ghost use Rattle.std.specs.Prelude.{◌≡◌, true, false, ◌+◌, ◌*◌, ◌≤◌, ◌<◌, ◌^◌, length};
 ghost use Rattle.lists.specs.Pick.{pick};
 ghost use Rattle.lists.specs.Gather.{gather};
 ghost use Rattle.rules.specs.Maps.{map_bytes};
@@ -17,38 +17,24 @@ pub struct Plans {
     pub length: usize,
 }
 
-fn wider(wide: bool, size: usize) -> bool
-    ensures { result ≡ pick (ltb 4 size) true wide }
-{
-    if 4 < size { true } else { wide }
-}
-
 pub fn plan_maps(work: &[u32], n: usize, t: &[u8], maps: usize, glyphs: &[u32]) -> Plans
     requires { Collected maps t.now glyphs.now n work.now }
     ensures { MapsPlanned maps t.now glyphs.now result.plans result.wide result.length maps }
 {
-    let none = MapPlan {
-        written: false,
-        count: 0,
-        bits: 0,
-        size: 0,
-    };
     let limit = inner_limit(work, n);
-    let mut plans = [none; 4];
+    let mut plans = [MapPlan::default(); 4];
     let mut wide = false;
     let mut length = 0;
-    let mut m = 0;
-    while m < maps {
+    for m in 0..maps {
         let p = plan_map(work, n, t, m, glyphs, limit);
-        wide = wider(wide, p.size);
+        wide |= p.size > 4;
         length += map_length(p);
         plans[m] = p;
-        m += 1;
     }
     Plans {
-        plans: plans,
-        wide: wide,
-        length: length,
+        plans,
+        wide,
+        length,
     }
 }
 
@@ -66,12 +52,9 @@ pub fn put_offsets(out: &mut [u8], plans: [MapPlan; 4], maps: usize, first: usiz
     ensures { out.new ≡ gather (λ m. offset_at plans first m) maps }
 {
     let mut at = first;
-    let mut m = 0;
-    while m < maps {
-        let p = plans[m];
+    for (m, &p) in plans[..maps].iter().enumerate() {
         cells::put_u32(out, 4 * m, offset_of(p, at));
         at += map_length(p);
-        m += 1;
     }
 }
 
@@ -101,12 +84,9 @@ pub fn put_maps(
     ensures { out.new ≡ gather (λ m. part_at maps t.now glyphs.now m) maps }
 {
     let mut at = 0;
-    let mut m = 0;
-    while m < maps {
-        let p = plans[m];
+    for (m, &p) in plans[..maps].iter().enumerate() {
         let end = at + map_length(p);
         put_part(&mut out[at..end], work, n, t, m, glyphs, p);
         at = end;
-        m += 1;
     }
 }

@@ -18,59 +18,28 @@ fn same_answer(a: Answer, number: u32, length: usize) -> bool {
 
 // The first bytes are those wanted, the rest is 165.
 fn same_output(out: &[u8], want: &[u8]) -> bool {
-    let mut i = 0;
-    while i < out.len() {
-        let b = if i < want.len() { want[i] } else { 165 };
-        if out[i] != b {
-            return false;
-        }
-        i += 1;
-    }
-    want.len() <= out.len()
+    out.strip_prefix(want)
+        .is_some_and(|rest| rest.iter().all(|b| *b == 165))
 }
 
 // After a refusal 1 all numbers are 7, else the first 16,384 are 0.
 fn same_work(work: &[u32], number: u32) -> bool {
     let zeros = if number == 1 { 0 } else { 16384 };
-    let mut i = 0;
-    while i < work.len() {
-        let v = if i < zeros { 0 } else { 7 };
-        if work[i] != v {
-            return false;
-        }
-        i += 1;
-    }
-    true
-}
-
-fn fill_bytes(out: &mut [u8]) {
-    let mut i = 0;
-    while i < out.len() {
-        out[i] = 165;
-        i += 1;
-    }
-}
-
-fn fill_numbers(work: &mut [u32]) {
-    let mut i = 0;
-    while i < work.len() {
-        work[i] = 7;
-        i += 1;
-    }
+    work.iter()
+        .enumerate()
+        .all(|(i, v)| *v == if i < zeros { 0 } else { 7 })
 }
 
 fn pairs_of(pairs: &mut [u32], raw: &[u8])
     requires { length raw.now ≡ 4 * length pairs.old }
 {
-    let mut i = 0;
-    while i < pairs.len() {
-        pairs[i] = u32_at(raw, 4 * i);
-        i += 1;
+    for (i, pair) in pairs.iter_mut().enumerate() {
+        *pair = u32_at(raw, 4 * i);
     }
 }
 
 // The numbers at the head of a record: the call's flag and lengths, and what is wanted.
-#[derive(Drop)]
+#[derive(Clone, Copy)]
 struct Head {
     keep: bool,
     area: usize,
@@ -98,72 +67,35 @@ fn head_of(raw: &[u8]) -> Head
 }
 
 // Reads n bytes, where there is room.
-fn read_bytes(input: &mut impl Read, to: &mut [u8], n: usize) -> bool {
-    if n > to.len() {
-        return false;
-    }
-    input.read_exact(&mut to[0..n]).is_ok()
+fn read_bytes<'a>(input: &mut impl Read, to: &'a mut [u8], n: usize) -> Option<&'a [u8]> {
+    let part = to.get_mut(..n)?;
+    input.read_exact(part).ok()?;
+    Some(part)
 }
 
-fn read_pairs(input: &mut impl Read, pairs: &mut [u32], raw: &mut [u8], n: usize) -> bool {
-    if n > pairs.len() {
-        return false;
-    }
-    let length = 4 * n;
-    if length > raw.len() {
-        return false;
-    }
-    let _ = input.read_exact(&mut raw[0..length]);
-    pairs_of(&mut pairs[0..n], &raw[0..length]);
-    true
+// Reads n numbers, where there is room; they need not all be there.
+fn read_pairs<'a>(
+    input: &mut impl Read,
+    pairs: &'a mut [u32],
+    raw: &mut [u8],
+    n: usize,
+) -> Option<&'a [u32]> {
+    let pairs = pairs.get_mut(..n)?;
+    let raw = raw.get_mut(..4 * n)?;
+    let _ = input.read_exact(raw);
+    pairs_of(pairs, raw);
+    Some(pairs)
 }
 
 // Makes the call, and compares.
 fn call(h: Head, s: &[u8], pairs: &[u32], work: &mut [u32], out: &mut [u8], want: &[u8]) -> bool {
-    fill_numbers(work);
-    fill_bytes(out);
+    work.fill(7);
+    out.fill(165);
     let answer = store::cut_store(s, pairs, h.keep, work, out);
     same_answer(answer, h.number, h.length) && same_output(out, want) && same_work(work, h.number)
 }
 
-// The call with the lengths of its lent memory.
-fn lent(h: Head, s: &[u8], pairs: &[u32], work: &mut [u32], out: &mut [u8], want: &[u8]) -> bool {
-    let area = h.area;
-    let room = h.room;
-    if area > work.len() {
-        return false;
-    }
-    if room > out.len() {
-        return false;
-    }
-    call(h, s, pairs, &mut work[0..area], &mut out[0..room], want)
-}
-
-// The call with the lengths of what it reads.
-fn play(h: Head, s: &[u8], pairs: &[u32], work: &mut [u32], out: &mut [u8], want: &[u8]) -> bool {
-    let bytes = h.bytes;
-    let count = h.pairs;
-    let wanted = h.want;
-    if bytes > s.len() {
-        return false;
-    }
-    if count > pairs.len() {
-        return false;
-    }
-    if wanted > want.len() {
-        return false;
-    }
-    lent(
-        h,
-        &s[0..bytes],
-        &pairs[0..count],
-        work,
-        out,
-        &want[0..wanted],
-    )
-}
-
-// Reads the rest of a record, and plays it.
+// Reads the rest of a record, and plays it; none where it ends too early or a part is longer than any should be.
 fn play_record(
     input: &mut impl Read,
     head: &[u8],
@@ -173,24 +105,23 @@ fn play_record(
     want: &mut [u8],
     work: &mut [u32],
     out: &mut [u8],
-) -> bool
+) -> Option<bool>
     requires { length head.now ≡ 32 }
 {
     let h = head_of(head);
-    if !read_bytes(input, bytes, h.bytes) {
-        return false;
-    }
-    if !read_pairs(input, pairs, raw, h.pairs) {
-        return false;
-    }
-    if !read_bytes(input, want, h.want) {
-        return false;
-    }
-    play(h, bytes, pairs, work, out, want)
+    let bytes = read_bytes(input, bytes, h.bytes)?;
+    let pairs = read_pairs(input, pairs, raw, h.pairs)?;
+    let want = read_bytes(input, want, h.want)?;
+    let work = work.get_mut(..h.area)?;
+    let out = out.get_mut(..h.room)?;
+    Some(call(h, bytes, pairs, work, out, want))
 }
 
-fn main(rt: HostRuntime) -> io::Result<()> {
-    let mut input = rt.reader();
+// The most records that are played.
+const MOST: u32 = 10000;
+
+// Plays the records, and tells how many there are and how many differ.
+fn play_all(input: &mut impl Read) -> (u32, u32) {
     let mut head = [0u8; 32];
     let mut bytes = [0u8; 2048];
     let mut raw = [0u8; 32800];
@@ -198,18 +129,22 @@ fn main(rt: HostRuntime) -> io::Result<()> {
     let mut want = [0u8; 33000];
     let mut work = [7u32; 16500];
     let mut out = [165u8; 33000];
-    let mut calls: u32 = 0;
-    let mut differ: u32 = 0;
-    while calls < 10000 {
+    let mut differ = 0;
+    for calls in 0..MOST {
         if input.read_exact(&mut head).is_err() {
-            break;
+            return (calls, differ);
         }
-        calls += 1;
-        if !play_record(
-            &mut input, &head, &mut bytes, &mut raw, &mut pairs, &mut want, &mut work, &mut out,
-        ) {
+        let same = play_record(
+            input, &head, &mut bytes, &mut raw, &mut pairs, &mut want, &mut work, &mut out,
+        );
+        if same != Some(true) {
             differ += 1;
         }
     }
+    (MOST, differ)
+}
+
+fn main(rt: HostRuntime) -> io::Result<()> {
+    let (calls, differ) = play_all(&mut rt.reader());
     println!(rt; "{calls} calls, {differ} differ")
 }

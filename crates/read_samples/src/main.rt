@@ -24,17 +24,12 @@ fn delta(
     number: u32,
     value: i32,
 ) -> io::Result<()> {
-    match readers::read_delta(store, outer, inner, column) {
-        Delta::Value(z) => {
-            if number == 0 && z == value {
-                return Ok(());
-            }
-        }
-        Delta::Refused(r) => {
-            if number == readers::number_of(r) {
-                return Ok(());
-            }
-        }
+    let right = match readers::read_delta(store, outer, inner, column) {
+        Delta::Value(z) => number == 0 && z == value,
+        Delta::Refused(r) => number == readers::number_of(r),
+    };
+    if right {
+        return Ok(());
     }
     differs(rt, "delta", outer, inner, column)
 }
@@ -50,10 +45,8 @@ fn row(
 ) -> io::Result<()> {
     let mut given = 0;
     let found = readers::read_row(store, outer, inner, &mut given);
-    if found == part {
-        if given == number {
-            return Ok(());
-        }
+    if found == part && given == number {
+        return Ok(());
     }
     differs(rt, "row", outer, inner, number)
 }
@@ -67,17 +60,12 @@ fn entry(
     outer: u32,
     inner: u32,
 ) -> io::Result<()> {
-    match readers::read_entry(map, glyph) {
-        Entry::Pair(o, i) => {
-            if number == 0 && o == outer && i == inner {
-                return Ok(());
-            }
-        }
-        Entry::Refused(r) => {
-            if number == readers::number_of(r) {
-                return Ok(());
-            }
-        }
+    let right = match readers::read_entry(map, glyph) {
+        Entry::Pair(o, i) => number == 0 && o == outer && i == inner,
+        Entry::Refused(r) => number == readers::number_of(r),
+    };
+    if right {
+        return Ok(());
     }
     differs(rt, "entry", glyph, outer, inner)
 }

@@ -1,22 +1,42 @@
 // One call of the library, and whether it is answered as the list says.
-use crate::memory::{WORK_MARK, all_are, holds, mark_out, mark_work};
+use crate::memory::{OUT_MARK, WORK_MARK, holds};
 use readers::number_of;
 use rules::Answer;
 
-// What is asked for: the kind of call, and the number that it is to give.
-#[derive(Drop)]
+// Which cut is asked for.
+#[derive(Clone, Copy)]
+pub enum Cut {
+    Store,
+    StoreKeepingEmpty,
+    Hvar,
+    Vvar,
+}
+
+// The kind of a record, as data/README.md names it.
+impl From<u32> for Cut {
+    fn from(kind: u32) -> Cut {
+        match kind {
+            1 => Cut::StoreKeepingEmpty,
+            2 => Cut::Hvar,
+            3 => Cut::Vvar,
+            _ => Cut::Store,
+        }
+    }
+}
+
+// What is asked for: the cut, and the number that it is to give.
+#[derive(Clone, Copy)]
 pub struct Asked {
-    pub kind: u32,
+    pub cut: Cut,
     pub number: u32,
 }
 
-fn cut(kind: u32, bytes: &[u8], list: &[u32], work: &mut [u32], out: &mut [u8]) -> Answer {
-    if kind == 2 {
-        tables::cut_hvar(bytes, list, work, out)
-    } else if kind == 3 {
-        tables::cut_vvar(bytes, list, work, out)
-    } else {
-        store::cut_store(bytes, list, kind == 1, work, out)
+fn call(cut: Cut, bytes: &[u8], list: &[u32], work: &mut [u32], out: &mut [u8]) -> Answer {
+    match cut {
+        Cut::Store => store::cut_store(bytes, list, false, work, out),
+        Cut::StoreKeepingEmpty => store::cut_store(bytes, list, true, work, out),
+        Cut::Hvar => tables::cut_hvar(bytes, list, work, out),
+        Cut::Vvar => tables::cut_vvar(bytes, list, work, out),
     }
 }
 
@@ -29,19 +49,15 @@ pub fn same(
     out: &mut [u8],
     answer: &[u8],
 ) -> bool {
-    mark_work(work);
-    mark_out(out);
-    let given = cut(asked.kind, bytes, list, work, out);
-    let mut number = 0;
-    let mut length = 0;
-    match given {
-        Answer::Written(n) => {
-            length = n;
-        }
-        Answer::Refused(r) => {
-            number = number_of(r);
-        }
-    }
+    work.fill(WORK_MARK);
+    out.fill(OUT_MARK);
+    let (number, length) = match call(asked.cut, bytes, list, work, out) {
+        Answer::Written(n) => (0, n),
+        Answer::Refused(r) => (number_of(r), 0),
+    };
     let left = if number == 1 { WORK_MARK } else { 0 };
-    number == asked.number && length == answer.len() && holds(out, answer) && all_are(work, left)
+    number == asked.number
+        && length == answer.len()
+        && holds(out, answer)
+        && work.iter().all(|w| *w == left)
 }

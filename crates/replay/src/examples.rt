@@ -1,26 +1,19 @@
 // The cuts among P1 to P10, document 01's examples. Each function gives how many of its calls differ.
 ghost use Rattle.std.specs.Prelude.{◌≤◌};
 
-use crate::call::{Asked, same};
+use crate::call::{Asked, Cut, same};
 
-// 1 where the call differs. The kind is that of a record of the list.
-fn differs(kind: u32, bytes: &[u8], list: &[u32], room: usize, number: u32, answer: &[u8]) -> u32
+// 1 where the call differs.
+fn differs(cut: Cut, bytes: &[u8], list: &[u32], room: usize, number: u32, answer: &[u8]) -> u32
     ensures { result ≤ 1 }
 {
     let mut work = [0u32; 16384];
     let mut out = [0u8; 80];
-    if room > 80 {
+    let Some(out) = out.get_mut(..room) else {
         return 1;
-    }
-    let asked = Asked {
-        kind: kind,
-        number: number,
     };
-    if same(asked, bytes, list, &mut work, &mut out[0..room], answer) {
-        0
-    } else {
-        1
-    }
+    let asked = Asked { cut, number };
+    u32::from(!same(asked, bytes, list, &mut work, out, answer))
 }
 
 fn p1() -> u32
@@ -31,7 +24,7 @@ fn p1() -> u32
     let list = [0u32, 2];
     // Keep items 0, 2: 32 bytes, whole
     let r0 = differs(
-        0,
+        Cut::Store,
         bytes,
         &list,
         40,
@@ -39,7 +32,7 @@ fn p1() -> u32
         b"\x00\x01\x00\x00\x00\x0c\x00\x01\x00\x00\x00\x16\x00\x01\x00\x01\x00\x00\x40\x00\x40\x00\x00\x02\x00\x00\x00\x01\x00\x00\x64\x0a",
     );
     // With 31 bytes of output: 10
-    let r1 = differs(0, bytes, &list, 31, 10, b"");
+    let r1 = differs(Cut::Store, bytes, &list, 31, 10, b"");
     r0 + r1
 }
 
@@ -51,7 +44,7 @@ fn p2() -> u32
     let list = [1u32];
     // Keep item 1: subtable 00 01 00 01 00 02 00 00 00 01 FF 38 05
     differs(
-        0,
+        Cut::Store,
         bytes,
         &list,
         41,
@@ -74,7 +67,7 @@ fn p4() -> u32
     let list = [0u32];
     // Column of 127: narrow
     let r0 = differs(
-        0,
+        Cut::Store,
         bytes_a,
         &list,
         32,
@@ -83,7 +76,7 @@ fn p4() -> u32
     );
     // Column of 128: wide
     let r1 = differs(
-        0,
+        Cut::Store,
         bytes_b,
         &list,
         32,
@@ -92,7 +85,7 @@ fn p4() -> u32
     );
     // Column of -128: narrow
     let r2 = differs(
-        0,
+        Cut::Store,
         bytes_c,
         &list,
         32,
@@ -101,7 +94,7 @@ fn p4() -> u32
     );
     // Column of -129: wide
     let r3 = differs(
-        0,
+        Cut::Store,
         bytes_d,
         &list,
         32,
@@ -124,10 +117,10 @@ fn p5() -> u32
         b"\x00\x01\x00\x00\x00\x0c\x00\x01\x00\x00\x00\x16\x00\x01\x00\x01\x00\x00\x00\x00\x00\x00\x00\x01\x80\x01\x00\x01\x00\x00\x00\x00\x7f\xff";
     let list = [0u32];
     // Long source, one kept delta 40000: 9
-    let r0 = differs(0, bytes_a, &list, 40, 9, b"");
+    let r0 = differs(Cut::Store, bytes_a, &list, 40, 9, b"");
     // 65536: long kept
     let r1 = differs(
-        0,
+        Cut::Store,
         bytes_b,
         &list,
         40,
@@ -135,10 +128,10 @@ fn p5() -> u32
         b"\x00\x01\x00\x00\x00\x0c\x00\x01\x00\x00\x00\x16\x00\x01\x00\x01\x00\x00\x00\x00\x00\x00\x00\x01\x80\x01\x00\x01\x00\x00\x00\x01\x00\x00",
     );
     // 65535: 9
-    let r2 = differs(0, bytes_c, &list, 40, 9, b"");
+    let r2 = differs(Cut::Store, bytes_c, &list, 40, 9, b"");
     // 32767: not long, wide
     let r3 = differs(
-        0,
+        Cut::Store,
         bytes_d,
         &list,
         40,
@@ -156,7 +149,7 @@ fn p6() -> u32
     let list = [0u32, 65538];
     // HVAR over S, no maps, glyphs 0→0, 1→2 (new→old)
     differs(
-        2,
+        Cut::Hvar,
         bytes,
         &list,
         58,
@@ -173,7 +166,7 @@ fn p7() -> u32
     let list = [0u32, 65586];
     // No advance map, old ids 0 and 50, lsb naming inners 50 and 10: order 0, 50, 10; lsb has two inner bits, advance one
     differs(
-        2,
+        Cut::Hvar,
         bytes,
         &list,
         80,
@@ -191,7 +184,7 @@ fn p8() -> u32
     let list_b = [5u32, 65542];
     // Source map with 4-byte entries and 1 inner bit: new inner 1 gives 4 bytes
     let r0 = differs(
-        2,
+        Cut::Hvar,
         bytes,
         &list_a,
         80,
@@ -199,7 +192,7 @@ fn p8() -> u32
         b"\x00\x01\x00\x00\x00\x00\x00\x14\x00\x00\x00\x34\x00\x00\x00\x39\x00\x00\x00\x00\x00\x01\x00\x00\x00\x0c\x00\x01\x00\x00\x00\x16\x00\x01\x00\x01\x00\x00\x00\x00\x00\x00\x00\x02\x00\x00\x00\x01\x00\x00\x06\x01\x00\x00\x00\x01\x00\x00\x30\x00\x01\x00\x00\x00\x01",
     );
     // New inner 2 gives 14
-    let r1 = differs(2, bytes, &list_b, 80, 14, b"");
+    let r1 = differs(Cut::Hvar, bytes, &list_b, 80, 14, b"");
     r0 + r1
 }
 
@@ -211,7 +204,7 @@ fn p9() -> u32
     let list = [0u32, 1];
     // All kept deltas 0, keep-empty on: no region, rows of length 0
     let r0 = differs(
-        1,
+        Cut::StoreKeepingEmpty,
         bytes,
         &list,
         40,
@@ -219,7 +212,7 @@ fn p9() -> u32
         b"\x00\x01\x00\x00\x00\x0c\x00\x01\x00\x00\x00\x10\x00\x01\x00\x00\x00\x02\x00\x00\x00\x00",
     );
     // Off: 7
-    let r1 = differs(0, bytes, &list, 40, 7, b"");
+    let r1 = differs(Cut::Store, bytes, &list, 40, 7, b"");
     r0 + r1
 }
 
@@ -231,7 +224,7 @@ fn p10() -> u32
     let list = [0u32];
     // Keep-empty on, no pairs, S: count 0 and a region list of 4 bytes
     differs(
-        1,
+        Cut::StoreKeepingEmpty,
         bytes,
         &list[0..0],
         40,

@@ -3,6 +3,3 @@ use Rattle.replay.proofs.play_all.Given as goal
 
 abbrev pub invariant-loop-left : goal.invariant-loop-left
 invariant-loop-left g l = l.left + l.differ ≤ l.fn.count
-
-abbrev pub decreases-loop-left : goal.decreases-loop-left
-decreases-loop-left g l = l.left

@@ -1,4 +1,7 @@
-use mathlib.Core.Path.{refl, sym}
+use Prim.Native.Nat.{◌+◌, ◌*◌}
+use mathlib.Core.Path.{◌≡◌, refl, sym, ap, ◌∙◌}
+use lib.ListN.{replicate}
+use borrow.Rule.Slice.PartMut.{mid_len}
 use native.Mathlib.Omega.{arith}
 use Rattle.rules.specs.TableCut.{null_table}
 use Rattle.laws.specs.Fitted.{fit_short, fit_written}
@@ -13,5 +16,7 @@ returns-then-out-head c = let n = null_length c.args.maps c.args.t.now c.require
 pub returns : goal.returns
 returns c = let maps = c.args.maps in
     let t = c.args.t.now in
-    let laid = null_laid maps t c.args.out.now c.requires.1 (search rules) c.put_version.ensures c.zero.ensures in
+    let long = mid_len 4 (8 + 4 * maps) c.put_version.new.out (omega arith) in
+    let zeros : c.fill.new.self ≡ replicate (4 + 4 * maps) 0 = c.fill.ensures.after (λ y h. h) ∙ ap (λ n. replicate n 0) (omega (arith, long)) in
+    let laid = null_laid maps t c.args.out.now c.requires.1 (search rules) c.put_version.ensures zeros in
     fit_written (null_table maps t) refl (sym (null_length maps t c.requires.1)) (search rules) laid

@@ -1,10 +1,6 @@
-use Prim.Native.Nat.{◌≤◌, ◌-◌}
 use Rattle.lists.proofs.Laid.{Laid}
 use Rattle.frame.specs.Plans.{part_at}
 use Rattle.frame.proofs.plans.put_maps.Given as goal
 
 abbrev pub invariant-loop-m : goal.invariant-loop-m
-invariant-loop-m l = (l.m ≤ l.maps) × Laid (λ k. part_at l.maps l.t l.glyphs k) l.initial.out l.m l.at l.out
-
-abbrev pub decreases-loop-m : goal.decreases-loop-m
-decreases-loop-m l = l.maps - l.m
+invariant-loop-m l = Laid (λ k. part_at l.maps l.t l.glyphs k) l.initial.out l.m l.at l.out
