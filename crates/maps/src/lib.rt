@@ -54,13 +54,7 @@ fn count_of(source: &Source<'_>, glyphs: &[u32]) -> usize
 }
 
 // The bits of the largest new inner of the listed glyphs. None has more bits than the limit, so one that has as many ends the search.
-fn new_inner_bits(
-    work: &WorkArea,
-    n: usize,
-    source: &Source<'_>,
-    glyphs: &[u32],
-    limit: u32,
-) -> u32
+fn new_inner_bits(work: &WorkArea, n: usize, source: &Source<'_>, glyphs: &[u32], limit: u32) -> u32
     requires kept { Kept n work.now (pair_in source.now) glyphs.now }
     requires bounds { Bounds n work.now limit }
     ensures { result ≡ bits_for (largest_of (kept_in n work.now) (pair_in source.now) glyphs.now) }
