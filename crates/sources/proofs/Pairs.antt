@@ -54,15 +54,20 @@ unfolding pairs_in pairs_at
 pairs_are t m src [] h = refl
 pairs_are t m src (e ∷ es) h = rw (pair_is t m src h (old_id e)) (ap (λ ps. pair_at t (map_at t m) (old_id e) ∷ ps) (pairs_are t m src es h))
 
--- what the code's test says of the map
-pub counts_is : (t : List ℕ) (m : ℕ) (src : Source) → IsSource t m src → pick (eqb m 0) true (is_some src.map) ≡ counts t m
-unfolding counts present
-counts_is t m src h = rw (there src.map h)
+-- whether the map is present
+pub present_is : (t : List ℕ) (m : ℕ) (src : Source) → IsSource t m src → is_some src.map ≡ present t m
+unfolding present
+present_is t m src h = there src.map h
   where
     there : (o : Option Map) → MatchOption o (map_at t m ≡ 0) (λ x. (map_at t m ≡ 0 → ⊥) × (x.bytes.now ≡ t) × (x.shape.at ≡ map_at t m))
         → is_some o ≡ differ (map_at t m) 0
     there None e = sym (differ_no _ _ e)
     there (Some x) h = sym (differ_yes _ _ h.0)
+
+-- what the code's test says of the map
+pub counts_is : (t : List ℕ) (m : ℕ) (src : Source) → IsSource t m src → pick (eqb m 0) true (is_some src.map) ≡ counts t m
+unfolding counts
+counts_is t m src h = rw (present_is t m src h)
 
 -- an inner of so many bits
 pub inner_narrow : (t : List ℕ) (at g : ℕ) {i v : ℕ} → i ≡ inner_of t at g → 2 ^ inner_bits t at ≤ v → i < v
