@@ -11,14 +11,14 @@ use Rattle.rules.specs.Lists.{inner}
 use Rattle.rules.specs.Columns.{kept_deltas, keeps_long}
 use Rattle.laws.specs.Long.{long_words}
 use Rattle.readers.specs.Opened.{Opened}
-use Rattle.readers.specs.declared.subtable.Subtable.{Subtable}
+use Rattle.readers.specs.declared.subtable.Shape.{Shape}
 
 -- some pair has such a delta in the column
 unfoldable pub far_in : List ℕ → ℕ → List ℕ → ℕ → Bool
 far_in s at pairs c = any (λ z. outside 65535 z) (kept_deltas s at (map (λ p. inner p) pairs) c)
 
 -- of a subtable that is opened
-module _ {s : List ℕ} {t : Subtable} (o : Opened s t) (pairs : List ℕ) where
+module _ {s : List ℕ} {t : Shape} (o : Opened s t) (pairs : List ℕ) where
   pub not-long : t.long ≡ false → false ≡ keeps_long s t.at (map (λ p. inner p) pairs)
   unfolding keeps_long
   not-long e = rw (← o.long, e)

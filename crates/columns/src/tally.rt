@@ -4,7 +4,6 @@ ghost use Rattle.lists.specs.Pick.{pick};
 ghost use Rattle.rules.specs.Lists.{inner};
 ghost use Rattle.rules.specs.Columns.{kept_deltas};
 ghost use Rattle.laws.specs.Sizes.{size, column_size};
-ghost use Rattle.readers.specs.Opened.{Opened};
 ghost use Rattle.columns.specs.Tally.{number_of_size, Decides};
 
 use readers::subtable::Subtable;
@@ -65,16 +64,15 @@ fn enough(long: bool, cell: usize) -> usize
 }
 
 // The kept deltas of a column, tallied one after the other until the column is decided.
-pub fn column_size(s: &[u8], t: Subtable, pairs: &[u32], column: usize, long: bool) -> Size
-    requires { Opened s.now t }
-    ensures { Decides long (number_of_size result) (column_size (kept_deltas s.now t.at (map (λ p. inner p) pairs.now) column)) }
+pub fn column_size(t: &Subtable<'_>, pairs: &[u32], column: usize, long: bool) -> Size
+    ensures { Decides long (number_of_size result) (column_size (kept_deltas t.now.bytes.now t.now.shape.at (map (λ p. inner p) pairs.now) column)) }
 {
-    let cell = readers::subtable::cell_size(t.long, t.words, column);
+    let cell = t.shape.cell_size(column);
     let end = enough(long, cell);
     let mut tally = Column { size: Size::Zero };
     for pair in pairs {
         let item = (*pair % 65536) as usize;
-        tally = tally.take(readers::subtable::delta_of(s, t, item, column));
+        tally = tally.take(t.delta(item, column));
         if number(tally.size) as usize >= end {
             break;
         }

@@ -7,11 +7,7 @@ pub fn copy(out: &mut [u8], s: &[u8])
     requires { length out.old ≡ length s.now }
     ensures { out.new ≡ s.now }
 {
-    let mut i = 0;
-    while i < s.len() {
-        out[i] = s[i];
-        i += 1;
-    }
+    out.copy_from_slice(s);
 }
 
 // By way of a block of its own: the compiler then moves all 32 bytes at once, as it need not ask whether the two parts overlap.
@@ -20,8 +16,8 @@ fn copy_block(out: &mut [u8], s: &[u8])
     ensures { out.new ≡ s.now }
 {
     let mut block = [0; 32];
-    copy(&mut block[0..32], s);
-    copy(out, &block[0..32]);
+    block.copy_from_slice(s);
+    out.copy_from_slice(&block);
 }
 
 // Whether a part of a bytes and one of b have room for n, and for what the last block may reach past them.
@@ -29,10 +25,7 @@ fn has_blocks(a: usize, b: usize, n: usize) -> bool
     requires { (n ≤ a) × (n ≤ b) }
     ensures { result ≡ true → (n + 31 ≤ a) × (n + 31 ≤ b) }
 {
-    if a - n < 31 {
-        return false;
-    }
-    31 <= b - n
+    31 <= a - n && 31 <= b - n
 }
 
 // Copies n bytes, in blocks if there is room: the last one may reach past them, so what the output holds there is not promised.
@@ -42,13 +35,12 @@ pub fn copy_ahead(out: &mut [u8], s: &[u8], n: usize)
     ensures { take n out.new ≡ take n s.now }
 {
     if !has_blocks(out.len(), s.len(), n) {
-        copy(&mut out[0..n], &s[0..n]);
+        copy(&mut out[..n], &s[..n]);
         return;
     }
-    let mut at = 0;
-    while at < n {
-        let end = at + 32;
+    let blocks = n.div_ceil(32);
+    for k in 0..blocks {
+        let (at, end) = (32 * k, 32 * k + 32);
         copy_block(&mut out[at..end], &s[at..end]);
-        at = end;
     }
 }

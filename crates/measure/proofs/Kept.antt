@@ -17,16 +17,14 @@ use Rattle.lists.proofs.Each.{any-not, any_at}
 use Rattle.opentype.specs.Subtable.{column_count, word_size, rest_size}
 use Rattle.rules.specs.Columns.{plan_of, live}
 use Rattle.rules.specs.Lists.{inner}
-use Rattle.readers.specs.Opened.{Opened}
-use Rattle.readers.specs.declared.subtable.Subtable.{Subtable}
 use Rattle.laws.specs.Live.{any_order, some_kept}
 use Rattle.laws.specs.Lengths.{size_at, length_planned}
-use Rattle.rows.specs.declared.Columns.{Columns}
+use Rattle.rows.specs.declared.Counts.{Counts}
 use Rattle.rows.specs.Area.{part, items, column_in, columns_in}
 use Rattle.rows.specs.Length.{planned_length}
 use Rattle.rows.specs.Planned.{Planned}
 
-module _ {s : List ℕ} {at : ℕ} {is w : List ℕ} {r : Columns} (p : Planned s at is w r) where
+module _ {s : List ℕ} {at : ℕ} {is w : List ℕ} {r : Counts} (p : Planned s at is w r) where
   columns_length : length (columns_in w r.wide r.narrow) ≡ r.wide + r.narrow
   unfolding columns_in
   columns_length = length-tab (λ j. column_in w r.wide j) (r.wide + r.narrow)
@@ -58,20 +56,14 @@ pub length-items : (w : List ℕ) (from to : ℕ) → from ≤ to → to ≤ len
 length-items w from to a b = length-map (λ p. inner p) (part w from to) ∙ length-take-le (to - from) (drop from w) (rw length-drop (omega arith))
 
 -- a row has at most 16,384 bytes
-length_small : (r : Columns) (items : ℕ) → r.wide + r.narrow ≤ 4096 → planned_length r.long r.wide r.narrow items ≤ 8198 + 16384 * items
+pub bytes_small : (r : Counts) (items : ℕ) {bytes : ℕ} → r.wide + r.narrow ≤ 4096 → bytes ≡ planned_length r.long r.wide r.narrow items → bytes ≤ 8198 + 16384 * items
 unfolding planned_length
-length_small r items h = omega (arith, mul-le-mul_left items (row r.long))
+bytes_small r items h e = omega (arith, mul-le-mul_left items (row r.long))
   where
     row : (l : Bool) → r.wide * word_size l + r.narrow * rest_size l ≤ 16384
     row true = omega arith
     row false = omega arith
 
-module _ {s : List ℕ} {t : Subtable} {is w : List ℕ} {r : Columns} (o : Opened s t) (p : Planned s t.at is w r) where
-  pub few_kept : r.wide + r.narrow ≤ 4096
-  few_kept = omega (arith, p.few, o.columns, o.few)
-
-  pub bytes_small : {bytes : ℕ} (items : ℕ) → bytes ≡ planned_length r.long r.wide r.narrow items → bytes ≤ 8198 + 16384 * items
-  bytes_small items e = rw e (length_small r items few_kept)
-
-  pub bytes_are : {bytes : ℕ} (items : ℕ) → bytes ≡ planned_length r.long r.wide r.narrow items → length is ≡ items → bytes ≡ size_at s t.at is
-  bytes_are items e l = e ∙ rw (← l) (planned_length_lem p)
+pub bytes_are : {s : List ℕ} {at : ℕ} {is w : List ℕ} {r : Counts} {bytes : ℕ} (items : ℕ) → Planned s at is w r → bytes ≡ planned_length r.long r.wide r.narrow items
+    → length is ≡ items → bytes ≡ size_at s at is
+bytes_are items p e l = e ∙ rw (← l) (planned_length_lem p)

@@ -29,10 +29,10 @@ use Rattle.laws.specs.Inside.{store_inside}
 use Rattle.laws.specs.Usable.{in_array}
 use Rattle.pairs.specs.Pairs.{RunEnd}
 use Rattle.pairs.proofs.Laws.{run_left}
-use Rattle.readers.specs.Opened.{Usable, Unusable}
-use Rattle.readers.specs.declared.subtable.Subtable.{Subtable}
+use Rattle.readers.specs.Opening.{Usable, Unusable}
+use Rattle.readers.specs.declared.subtable.Shape.{Shape}
 use Rattle.measure.specs.declared.Measure.{Measure}
-use Rattle.rows.specs.declared.Columns.{Columns}
+use Rattle.rows.specs.declared.Counts.{Counts}
 use Rattle.rows.specs.Area.{part, items, used_in, columns_in}
 use Rattle.rows.specs.Planned.{Planned, Marked}
 use Rattle.measure.specs.Measured.{NoneUsed, with_subtable, Step, Fits, Left, Whole}
@@ -41,7 +41,7 @@ use Rattle.measure.proofs.Kept.{any_kept, live_kept}
 -- ---- one subtable
 
 -- planned in w₁, marked in w₂, its length noted
-module _ (s : List ℕ) (at : ℕ) (is w w₁ w₂ : List ℕ) (p : Columns) (m : Measure) (bad : Bool) (bytes regions : ℕ) where
+module _ (s : List ℕ) (at : ℕ) (is w w₁ w₂ : List ℕ) (p : Counts) (m : Measure) (bad : Bool) (bytes regions : ℕ) where
   pub step_of : regions ≡ region_count s → length w₂ ≡ 16384 → m.count < 256 → Planned s at is w₁ p → take 12288 w₁ ≡ take 12288 w
       → bad ≡ any (λ c. leb regions (region_index s at c)) (columns_in w₁ p.wide p.narrow)
       → Marked s at regions (columns_in w₁ p.wide p.narrow) w₁ w₂
@@ -63,7 +63,7 @@ module _ (s : List ℕ) (at : ℕ) (is w w₁ w₂ : List ℕ) (p : Columns) (m 
         low = take-set-le 8704 w₂ (8832 + m.count) bytes (omega arith) ∙ k.low ∙ front_same w₁ w 12288 same 8704 (omega arith);
       }
 
-pub fits_more : {m : Measure} {from : ℕ} (to : ℕ) (p : Columns) (bad : Bool) {bytes : ℕ} → Fits m from → m.count < 256 → from ≤ to → bytes ≤ 8198 + 16384 * (to - from)
+pub fits_more : {m : Measure} {from : ℕ} (to : ℕ) (p : Counts) (bad : Bool) {bytes : ℕ} → Fits m from → m.count < 256 → from ≤ to → bytes ≤ 8198 + 16384 * (to - from)
     → Fits (with_subtable m p bad bytes) to
 fits_more to p bad f few h b = record { few = omega arith; small = omega (arith, f.small) }
 
@@ -163,7 +163,7 @@ module _ {s w : List ℕ} {m : Measure} {n at end : ℕ} (h : n ≤ length w) (t
       let l = length-take-le n w h in
       rw (get_or-take n w at 0 (omega (arith, e.one.after, e.inside))) at (t.next (omega (arith, e.one.after, e.inside)))
 
-  pub turn_few : {u : Subtable} → bad_store s ≡ false → Usable s (outer (get_or w at 0)) u → m.count < 256
+  pub turn_few : {u : Shape} → bad_store s ≡ false → Usable s (outer (get_or w at 0)) u → m.count < 256
   turn_few b u = omega (arith, below, in_array s (outer (get_or w at 0)) u.there, (store_inside s b).few)
 
   later : outers_fall (take n w) ≡ false → end < length (take n w) → m.count + 1 ≤ outer (get_or (take n w) end 0)
@@ -174,7 +174,7 @@ module _ {s w : List ℕ} {m : Measure} {n at end : ℕ} (h : n ≤ length w) (t
       let d = rw (get_or-take n w at 0 (omega (arith, e.one.after)), get_or-take n w end 0 k) at c in
       rw (get_or-take n w end 0 k) (omega (arith, below, d, e.other k))
 
-  pub turn_more : {u : Subtable} {w' : List ℕ} {r : Measure} → bad_store s ≡ false → outers_fall (take n w) ≡ false → Usable s (outer (get_or w at 0)) u
+  pub turn_more : {u : Shape} {w' : List ℕ} {r : Measure} → bad_store s ≡ false → outers_fall (take n w) ≡ false → Usable s (outer (get_or w at 0)) u
       → Step s u.at (items (part w at end)) w w' m r → Fits r end → Turn s (take n w) w' r end
   unfolding here
   turn_more b f u k f' = record {

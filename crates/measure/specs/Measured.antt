@@ -1,10 +1,11 @@
 -- What the first pass knows of a store's runs.
-use Rattle.std.specs.Prelude.{ℕ, ◌+◌, ◌*◌, ◌^◌, ◌<◌, ◌≤◌, ◌≡◌, Bool, true, false, List, [], ◌∷◌, ◌++◌, length, take, drop, leb, ltb}
+use Rattle.std.specs.Prelude.{ℕ, ◌+◌, ◌*◌, ◌^◌, ◌<◌, ◌≤◌, ◌≡◌, Bool, true, false, List, [], ◌∷◌, ◌++◌, length, take, drop, leb, ltb, Result, Ok, Err}
 use Rattle.lists.specs.Pick.{pick, both}
 use Rattle.lists.specs.Search.{some}
 use Rattle.bits.specs.Bits.{has}
 use Rattle.opentype.specs.Store.{region_count}
 use Rattle.opentype.specs.Subtable.{column_count, region_index}
+use Rattle.rules.specs.declared.Refusal.{Refusal}
 use Rattle.rules.specs.Numbers.{Outcome, refused}
 use Rattle.rules.specs.Lists.{Run, runs}
 use Rattle.rules.specs.Columns.{kept_deltas}
@@ -14,9 +15,7 @@ use Rattle.rules.specs.StoreCut.{some_delta, bad_region_index, middle_width, sub
 use Rattle.rules.specs.StoreCut.{middle as is_middle}
 use Rattle.laws.specs.Lengths.{sum, size_at, sizes}
 use Rattle.measure.specs.declared.Measure.{Measure}
-use Rattle.measure.specs.declared.Measured.{Measured}
-use Rattle.measure.specs.declared.Measured.TheVariants.{Sized, Refused}
-use Rattle.rows.specs.declared.Columns.{Columns}
+use Rattle.rows.specs.declared.Counts.{Counts}
 use Rattle.rows.specs.Area.{used_in}
 
 -- no region is marked yet
@@ -24,7 +23,7 @@ pub record NoneUsed (w : List ℕ) : Type 0 where
   pub is : (q : ℕ) → has (used_in w) q ≡ false
 
 -- m with one more subtable, of the columns p and so many bytes; bad says that p names a region at or past the count
-abbrev pub with_subtable : Measure → Columns → Bool → ℕ → Measure
+abbrev pub with_subtable : Measure → Counts → Bool → ℕ → Measure
 with_subtable m p bad bytes = record {
   count = m.count + 1;
   length = m.length + bytes;
@@ -74,6 +73,6 @@ pub record Whole (s : List ℕ) (rs : List Run) (w : List ℕ) (m : Measure) : T
   pub subtables : (next : Outcome) → subtables_or s rs next ≡ next
 
 -- so, or 5 or 6 is given
-abbrev pub Measuring : List ℕ → List ℕ → List ℕ → Measured → Type 0
-Measuring s pairs w (Sized m) = Whole s (runs pairs) w m
-Measuring s pairs w (Refused r) = (next : Outcome) → subtables_or s (runs pairs) next ≡ refused r
+abbrev pub Measuring : List ℕ → List ℕ → List ℕ → Result Measure Refusal → Type 0
+Measuring s pairs w (Ok m) = Whole s (runs pairs) w m
+Measuring s pairs w (Err r) = (next : Outcome) → subtables_or s (runs pairs) next ≡ refused r

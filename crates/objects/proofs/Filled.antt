@@ -4,7 +4,7 @@ use mathlib.Core.List.{List, [], ◌++◌, append_assoc, append-nil}
 use Prim.Native.Nat.{ℕ, ◌+◌, ◌-◌, ◌≤◌}
 use native.Mathlib.Omega.{arith}
 use lib.ListN.{length, take, drop, length-append}
-use lib.Seq.{take_at, take_all, length-take-le}
+use lib.Seq.{sets-eq, take_at, take_all, drop-drop, length-take-le}
 use borrow.Rule.Slice.PartMut.{mid_of, put_mid, mid_len, same_len_mid}
 use Rattle.lists.proofs.Parts.{all_laid}
 use Rattle.cells.specs.Be.{Wrote}
@@ -40,6 +40,14 @@ filled_more {out} {at} piece rest {whole} {w} e f h q =
       same = m ∙ f.same;
       is = rw (t, append_assoc, q) f.is;
     }
+
+-- the same, of a piece stored number by number
+pub filled_wrote : {out : List ℕ} {at : ℕ} (piece rest : List ℕ) {whole w : List ℕ} (e : ℕ) → Filled out at (piece ++ rest) whole → e ≡ at + length piece → Wrote out at piece w
+    → Filled w e rest whole
+filled_wrote {out} {at} piece rest {w = w} e f h p =
+    let n : at + (e - at) ≡ at + length piece = omega arith in
+    let m : w ≡ put_mid at (e - at) out piece = p.is ∙ sets-eq piece out at (filled_room piece rest f) ∙ rw (drop-drop, n, append_assoc) in
+    rw m (filled_more piece rest e f h refl)
 
 pub filled_all : {out : List ℕ} {at : ℕ} {whole : List ℕ} → Filled out at [] whole → out ≡ whole
 filled_all {out} {at} {whole} f =

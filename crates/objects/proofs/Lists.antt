@@ -6,7 +6,7 @@ use mathlib.Core.List.{List, [], ◌∷◌, ◌++◌, map, append-nil}
 use native.Mathlib.Omega.{arith}
 use native.Mathlib.Numerals.{add-one}
 use lib.ListN.{length, get_or, take, drop, length-append, length-drop, length-take}
-use lib.Seq.{drop-cons, drop-length, length-take-le, get_or-take, get_or-drop}
+use lib.Seq.{drop-cons, length-take-le, get_or-take, get_or-drop}
 use Rattle.lists.specs.Pick.{pick}
 use Rattle.lists.specs.Gather.{gather, flat, select, rank}
 use Rattle.lists.proofs.Pieces.{flat_append}
@@ -23,7 +23,7 @@ use Rattle.laws.specs.Lengths.{sum, record_ends, length_records}
 use Rattle.rows.specs.Area.{used_in, used_of}
 use Rattle.objects.specs.Offsets.{offsets_by}
 use borrow.Rule.Slice.PartMut.{put_mid}
-use Rattle.objects.proofs.Filled.{Filled, filled_none, filled_more, filled_all}
+use Rattle.objects.proofs.Filled.{Filled, filled_none, filled_wrote}
 
 -- ---- offsets
 
@@ -38,16 +38,15 @@ length_offsets_by at [] = refl
 length_offsets_by at (n ∷ ns) = rw (length-append, length-be_bytes, length_offsets_by (at + n) ns) (omega arith)
 
 -- the offsets of the first k subtables are laid; next is the offset of the one behind them
-pub record Offset (ns : List ℕ) (first : ℕ) (out : List ℕ) (k at next : ℕ) : Type 0 where
+pub record Offset (ns : List ℕ) (first : ℕ) (out : List ℕ) (k next : ℕ) : Type 0 where
   pub inside : k ≤ length ns
-  pub place : at ≡ 4 * k
   pub left : next + sum (drop k ns) ≡ first + sum ns
-  pub filled : Filled out at (offsets_by next (drop k ns)) (offsets_by first ns)
+  pub filled : Filled out (4 * k) (offsets_by next (drop k ns)) (offsets_by first ns)
 
-pub offset_none : (ns : List ℕ) (first : ℕ) {out : List ℕ} → length out ≡ 4 * length ns → Offset ns first out 0 0 first
-offset_none ns first e = record { inside = omega arith; place = refl; left = refl; filled = filled_none (e ∙ sym (length_offsets_by first ns)) }
+pub offset_none : (ns : List ℕ) (first : ℕ) {out : List ℕ} → length out ≡ 4 * length ns → Offset ns first out 0 first
+offset_none ns first e = record { inside = omega arith; left = refl; filled = filled_none (e ∙ sym (length_offsets_by first ns)) }
 
-module _ {ns : List ℕ} {first : ℕ} {out : List ℕ} {k at next : ℕ} (o : Offset ns first out k at next) (h : k < length ns) where
+module _ {ns : List ℕ} {first : ℕ} {out : List ℕ} {k next : ℕ} (o : Offset ns first out k next) (h : k < length ns) where
   split : drop k ns ≡ get_or ns k 0 ∷ drop (k + 1) ns
   split = rw (add-one) (drop-cons ns k 0 h)
 
@@ -55,25 +54,15 @@ module _ {ns : List ℕ} {first : ℕ} {out : List ℕ} {k at next : ℕ} (o : O
   unfolding sum
   sums = rw split at o.left
 
-  pub offset_small : next ≤ first + sum ns
-  offset_small = omega (arith, sums)
-
-  pub offset_more : {w : List ℕ} {n : ℕ} (e : ℕ) → e ≡ at + 4 → w ≡ be_bytes 4 next → n ≡ get_or ns k 0
-      → Offset ns first (put_mid at (e - at) out w) (k + 1) e (next + n)
+  pub offset_more : {w : List ℕ} {n : ℕ} → Wrote out (4 * k) (be_bytes 4 next) w → n ≡ get_or ns k 0 → Offset ns first w (k + 1) (next + n)
   unfolding offsets_by
-  offset_more {w} {n} e p q r =
-      let f : Filled out at (be_bytes 4 next ++ offsets_by (next + get_or ns k 0) (drop (k + 1) ns)) (offsets_by first ns) = rw split at o.filled in
+  offset_more {w} {n} p r =
+      let f : Filled out (4 * k) (be_bytes 4 next ++ offsets_by (next + get_or ns k 0) (drop (k + 1) ns)) (offsets_by first ns) = rw split at o.filled in
       record {
         inside = omega arith;
-        place = omega (arith, o.place);
         left = rw r (omega (arith, sums));
-        filled = rw r (filled_more (be_bytes 4 next) (offsets_by (next + get_or ns k 0) (drop (k + 1) ns)) e f (rw (length-be_bytes 4 next) p) q);
+        filled = rw r (filled_wrote (be_bytes 4 next) (offsets_by (next + get_or ns k 0) (drop (k + 1) ns)) (4 * (k + 1)) f (rw (length-be_bytes 4 next) (omega arith)) p);
       }
-
-pub offset_all : {ns : List ℕ} {first : ℕ} {out : List ℕ} {k at next : ℕ} → Offset ns first out k at next → k ≡ length ns → out ≡ offsets_by first ns
-unfolding offsets_by
-offset_all {ns} {first} {out} {k} {at} {next} o e =
-    let f : Filled out at (offsets_by next []) (offsets_by first ns) = rw (e, drop-length ns) at o.filled in filled_all f
 
 -- the lengths in the work area
 pub noted_at : (w : List ℕ) (count k : ℕ) → k < count → get_or (take count (drop 8832 w)) k 0 ≡ get_or w (8832 + k) 0

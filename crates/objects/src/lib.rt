@@ -43,14 +43,9 @@ pub fn put_offsets(out: &mut [u8], work: &[u32], count: usize, first: usize)
     ensures { out.new ≡ offsets_by first (take count (drop 8832 work.now)) }
 {
     let mut next = first;
-    let mut at = 0;
-    let mut k = 0;
-    while k < count {
-        let end = at + 4;
-        put_u32(&mut out[at..end], 0, next as u32);
-        next += work[8832 + k] as usize;
-        at = end;
-        k += 1;
+    for (k, &length) in work[8832..8832 + count].iter().enumerate() {
+        put_u32(out, 4 * k, next as u32);
+        next += length as usize;
     }
 }
 
@@ -75,15 +70,13 @@ fn put_records(out: &mut [u8], work: &[u32], s: &[u8], size: usize, regions: usi
 {
     let mut from = regions_at(s) + 4;
     let mut next = 0;
-    let mut r = 0;
-    while r < regions {
+    for r in 0..regions {
         let length = used_length(work, r, size);
         let end = next + length;
         let stop = from + length;
         copy(&mut out[next..end], &s[from..stop]);
         next = end;
         from += size;
-        r += 1;
     }
 }
 
@@ -95,12 +88,10 @@ pub fn put_region_list(out: &mut [u8], work: &[u32], s: &[u8], l: Layout)
     requires out_len { length out.old ≡ 4 + l.used * (6 * l.axes) }
     ensures { out.new ≡ region_list_bytes s.now (used_of s.now work.now) }
 {
-    let axes = l.axes;
-    let used = l.used;
-    let end = list_length(used, axes);
-    put_u16(out, 0, axes as u32);
-    put_u16(out, 2, used as u32);
-    put_records(&mut out[4..end], work, s, 6 * axes, l.regions);
+    let end = list_length(l.used, l.axes);
+    put_u16(out, 0, l.axes as u32);
+    put_u16(out, 2, l.used as u32);
+    put_records(&mut out[4..end], work, s, 6 * l.axes, l.regions);
 }
 
 // The subtable of an outer that 5 and 6 let through.
@@ -138,6 +129,7 @@ pub fn put_subtables(out: &mut [u8], work: &mut [u32], s: &[u8], n: usize)
     let mut next = 0;
     let mut at = 0;
     let mut k = 0;
+    // A turn goes on where its run ends, and no iterator lends the runs: the turn writes to the numbers that hold them.
     while at < n {
         let end = pairs::end_of_run(work, at, n);
         let stop = next + work[8832 + k] as usize;

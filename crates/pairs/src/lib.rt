@@ -6,6 +6,8 @@ ghost use Rattle.lists.proofs.Ascending.{Rises};
 ghost use Rattle.rules.specs.Lists.{outer, outers_fall, twice, bad_pairs};
 ghost use Rattle.pairs.specs.Pairs.{Inners, Held, OneOuter, RunEnd};
 
+use rules::WorkArea;
+
 fn outers_fall(pairs: &[u32]) -> bool
     ensures { result ≡ outers_fall pairs.now }
 {
@@ -14,14 +16,13 @@ fn outers_fall(pairs: &[u32]) -> bool
 
 // The set holds the inners of the outer that pair i has: it is cleared where that outer is a new one.
 fn turn_to(set: &mut [u32], pairs: &[u32], i: usize)
-    requires set_len { length set.old ≡ 2048 }
     requires i_in_bounds { i < length pairs.now }
     requires pairs_value { outers_fall pairs.now ≡ false }
     requires held { Held set.old pairs.now i }
     ensures { Inners set.new (outer (get_or pairs.now i 0)) (take i pairs.now) }
 {
     if i == 0 || pairs[i] / 65536 != pairs[i - 1] / 65536 {
-        bits::clear(set, 2048);
+        set.fill(0);
     }
 }
 
@@ -50,8 +51,7 @@ fn rises(pairs: &[u32]) -> bool
 }
 
 // 2. Pairs that rise need no set: no outer falls, and none stands twice.
-pub fn bad_pairs(work: &mut [u32], pairs: &[u32]) -> bool
-    requires { length work.old ≡ 16384 }
+pub fn bad_pairs(work: &mut WorkArea, pairs: &[u32]) -> bool
     ensures { result ≡ bad_pairs pairs.now }
 {
     if pairs.len() > 8192 {

@@ -1,27 +1,24 @@
 -- What is decided for a store before it is written.
-use Rattle.std.specs.Prelude.{ℕ, ◌<◌, ◌≤◌, ◌^◌, ◌≡◌, Bool, false, List, length, take, drop}
+use Rattle.std.specs.Prelude.{ℕ, ◌<◌, ◌≤◌, ◌^◌, ◌≡◌, Bool, false, List, length, take, drop, Result, Ok, Err, Option, Some, None}
 use Rattle.lists.specs.Gather.{rank}
 use Rattle.lists.specs.Search.{any}
 use Rattle.bits.specs.Bits.{has}
-use Rattle.opentype.specs.Store.{axis_count, region_count}
+use Rattle.opentype.specs.Store.{region_count}
+use Rattle.rules.specs.declared.Refusal.{Refusal}
 use Rattle.rules.specs.Numbers.{Outcome, refused, written}
 use Rattle.rules.specs.Lists.{Run, outers_fall, runs}
-use Rattle.rules.specs.Open.{bad_store, bad_regions}
+use Rattle.rules.specs.Open.{bad_regions}
 use Rattle.rules.specs.Regions.{is_used}
 use Rattle.rules.specs.StoreCut.{bad_region_index, store_bytes, null_store, subtables_or, checked_cut, cut_opened}
 use Rattle.laws.specs.Lengths.{sizes}
 use Rattle.laws.specs.Usable.{unusable}
 use Rattle.rows.specs.Area.{used_in}
 use Rattle.plan.specs.declared.Layout.{Layout}
-use Rattle.plan.specs.declared.Planned.{Planned}
-use Rattle.plan.specs.declared.Planned.TheVariants.{Null, Laid, Refused}
 
 -- every check has passed, and the work area w holds the used regions
 pub record Passed (s pairs w : List ℕ) : Type 0 where
-  pub area : length w ≡ 16384
   pub pairs_fit : length pairs ≤ 8192
   pub climb : outers_fall pairs ≡ false
-  pub store : bad_store s ≡ false
   pub list : bad_regions s ≡ false
   pub usable : any (λ run. unusable s run) (runs pairs) ≡ false
   pub named : bad_region_index s (runs pairs) ≡ false
@@ -33,9 +30,6 @@ pub record Ready (s pairs w : List ℕ) (l : Layout) : Type 0 where
   pub few : l.count ≤ 256
   pub count : l.count ≡ length (runs pairs)
   pub noted : take l.count (drop 8832 w) ≡ sizes s (runs pairs)
-  pub axes : l.axes ≡ axis_count s
-  pub axes_fit : l.axes ≤ 65535
-  pub regions : l.regions ≡ region_count s
   pub used_fit : l.used ≤ 4096
   pub number : l.used ≡ rank (λ q. is_used s (runs pairs) q) (region_count s)
   pub whole : l.length ≡ length (store_bytes s (runs pairs))
@@ -45,11 +39,16 @@ pub record Ready (s pairs w : List ℕ) (l : Layout) : Type 0 where
 abbrev pub cut_runs : List ℕ → List Run → Bool → Outcome
 cut_runs s rs keep_empty = subtables_or s rs (checked_cut s rs keep_empty)
 
--- the plan r says what an outcome says
-abbrev pub PlannedAs : Outcome → List ℕ → List ℕ → List ℕ → Planned → Type 0
-PlannedAs o s pairs w Null = o ≡ written null_store
-PlannedAs o s pairs w (Laid l) = (o ≡ written (store_bytes s (runs pairs))) × Ready s pairs w l
-PlannedAs o s pairs w (Refused q) = o ≡ refused q
+-- the layout says what an outcome says
+abbrev pub LaidAs : Outcome → List ℕ → List ℕ → List ℕ → Result Layout Refusal → Type 0
+LaidAs o s pairs w (Ok l) = (o ≡ written (store_bytes s (runs pairs))) × Ready s pairs w l × (l.regions.store.bytes.now ≡ s)
+LaidAs o s pairs w (Err q) = o ≡ refused q
 
-abbrev pub StorePlanned : List ℕ → List ℕ → Bool → List ℕ → Planned → Type 0
+-- the plan does; the null store has no layout
+abbrev pub PlannedAs : Outcome → List ℕ → List ℕ → List ℕ → Result (Option Layout) Refusal → Type 0
+PlannedAs o s pairs w (Ok None) = o ≡ written null_store
+PlannedAs o s pairs w (Ok (Some l)) = LaidAs o s pairs w (Ok l)
+PlannedAs o s pairs w (Err q) = o ≡ refused q
+
+abbrev pub StorePlanned : List ℕ → List ℕ → Bool → List ℕ → Result (Option Layout) Refusal → Type 0
 StorePlanned s pairs keep_empty w r = PlannedAs (cut_opened s pairs keep_empty) s pairs w r

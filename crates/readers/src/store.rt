@@ -22,6 +22,7 @@ pub struct Regions<'a> {
     pub ghost sound: { bad_regions store.bytes.now ≡ false },
     pub ghost place: { at ≡ regions_at store.bytes.now },
     pub ghost axis_count: { axes ≡ axis_count store.bytes.now },
+    pub ghost axes_bound: { axes ≤ 65535 },
     pub ghost region_count: { count ≡ region_count store.bytes.now },
 }
 

@@ -7,11 +7,11 @@ use Rattle.lists.proofs.Tabs.{get_d_tab}
 use Rattle.lists.proofs.Selected.{pair_inside}
 use Rattle.opentype.specs.Subtable.{column_count}
 use Rattle.rules.specs.Columns.{plan_of, plan_with}
-use Rattle.rows.specs.declared.Columns.{Columns}
+use Rattle.rows.specs.declared.Counts.{Counts}
 use Rattle.rows.specs.Area.{column_in, columns_in}
 use Rattle.rows.specs.Planned.{Planned, Inside}
 
-pub planned_inside : {s : List ℕ} {at : ℕ} {is w : List ℕ} {p : Columns} → Planned s at is w p → Inside s at w p
+pub planned_inside : {s : List ℕ} {at : ℕ} {is w : List ℕ} {p : Counts} → Planned s at is w p → Inside s at w p
 unfolding columns_in plan_of plan_with
 planned_inside {s} {at} {w = w} {p = p} h = record {
   few = h.few;

@@ -6,11 +6,11 @@ use Rattle.bits.specs.Bits.{has}
 use Rattle.opentype.specs.Subtable.{column_count, region_index}
 use Rattle.rules.specs.Columns.{plan_of, order, kept_deltas}
 use Rattle.rules.specs.StoreCut.{middle}
-use Rattle.rows.specs.declared.Columns.{Columns}
+use Rattle.rows.specs.declared.Counts.{Counts}
 use Rattle.rows.specs.Area.{used_in, column_in, columns_in}
 
 -- r are the columns of the subtable of s at a place with the kept items is, and stand in the work area w
-pub record Planned (s : List ℕ) (at : ℕ) (is : List ℕ) (w : List ℕ) (r : Columns) : Type 0 where
+pub record Planned (s : List ℕ) (at : ℕ) (is : List ℕ) (w : List ℕ) (r : Counts) : Type 0 where
   pub long : r.long ≡ (plan_of s at is).is_long
   pub wide : r.wide ≡ length (plan_of s at is).wide
   pub narrow : r.narrow ≡ length (plan_of s at is).narrow
@@ -19,7 +19,7 @@ pub record Planned (s : List ℕ) (at : ℕ) (is : List ℕ) (w : List ℕ) (r :
   pub few : r.wide + r.narrow ≤ column_count s at
 
 -- the kept columns are columns of the subtable
-pub record Inside (s : List ℕ) (at : ℕ) (w : List ℕ) (r : Columns) : Type 0 where
+pub record Inside (s : List ℕ) (at : ℕ) (w : List ℕ) (r : Counts) : Type 0 where
   pub few : r.wide + r.narrow ≤ column_count s at
   pub each : (j : ℕ) → j < r.wide + r.narrow → column_in w r.wide j < column_count s at
 

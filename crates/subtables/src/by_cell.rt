@@ -68,20 +68,18 @@ fn put_groups(
     requires out_len { length out.old ≡ row_of p }
     ensures { out.new ≡ row_bytes s.now t.at (plan_in work.now p) item }
 {
-    let wide = p.wide;
-    let narrow = p.narrow;
-    let mid = wide * word;
-    let end = mid + narrow * rest;
-    put_cells(&mut out[0..mid], work, s, t, wide, item, 0, wide, word);
+    let mid = p.wide * word;
+    let end = mid + p.narrow * rest;
+    put_cells(&mut out[0..mid], work, s, t, p.wide, item, 0, p.wide, word);
     put_cells(
         &mut out[mid..end],
         work,
         s,
         t,
-        wide,
+        p.wide,
         item,
-        wide,
-        narrow,
+        p.wide,
+        p.narrow,
         rest,
     );
 }

@@ -1,7 +1,6 @@
 use mathlib.Core.Path.{◌∙◌}
 use native.Mathlib.Nat.{add-sub_cancel_left}
 use native.Mathlib.Omega.{arith}
-use lib.ListN.{length-take, length-drop}
 use borrow.Author.Rules.{rules}
 use Rattle.lists.proofs.Laid.{laid_none, laid_more}
 use Rattle.laws.specs.Inside.{regions_inside}
@@ -12,14 +11,14 @@ use Rattle.objects.proofs.put_records.Goals.{After-used_length-length}
 turn : (c : After-used_length-length) → let l = c.loop-r in let a = c.args in Copying a.s.now a.work.now a.out.now l.r l.next l.from c.used_length-length.result
 turn c =
     let l = c.loop-r in
-    copying c.args.s.now c.args.work.now (regions_inside _ c.requires.work_len.2).inside c.args.size c.requires.out_len l.invariant.3 (omega arith) l.invariant.2 c.requires.size_value.0 c.used_length-length.ensures
+    copying c.args.s.now c.args.work.now (regions_inside _ c.requires.work_len.2).inside c.args.size c.requires.out_len l.invariant.1 (omega arith) l.invariant.0 c.requires.size_value.0 c.used_length-length.ensures
 
 pub overflow_add-from : goal.overflow_add-from
 overflow_add-from c = let i = regions_inside _ c.requires.work_len.2 in omega (arith, c.regions_at-from.ensures, i.head)
 
 pub loop-r-init : goal.loop-r-init
 loop-r-init c = let i = regions_inside _ c.requires.work_len.2 in
-    (search rules, search rules, omega (arith, c.regions_at-from.ensures), laid_none _ _)
+    (omega (arith, c.regions_at-from.ensures), laid_none _ _)
 
 pub used_length-length-requires : goal.used_length-length-requires
 used_length-length-requires c = (search rules, omega (arith, (regions_inside _ c.requires.work_len.2).few))
@@ -36,10 +35,6 @@ slice_bounds-copy-end c = omega (arith, turn c)
 pub slice_bounds-copy-end-in-loop-r : goal.slice_bounds-copy-end-in-loop-r
 slice_bounds-copy-end-in-loop-r c = omega (arith, turn (goal.at.slice_bounds-copy-end-in-loop-r c).After-used_length-length)
 
-pub copy-requires : goal.copy-requires
-copy-requires c = let t = turn (goal.at.copy-requires c).After-used_length-length in
-    simp (length-take, length-drop) (omega (arith, t.room, t.stop, c.loop-r.invariant.0))
-
 pub overflow_add-from-in-loop-r : goal.overflow_add-from-in-loop-r
 overflow_add-from-in-loop-r c = omega (arith, turn (goal.at.overflow_add-from-in-loop-r c).After-used_length-length)
 
@@ -48,7 +43,7 @@ loop-r-preserved c = let l = c.loop-r in
     let n = c.used_length-length.result in
     let t = turn (goal.at.loop-r-preserved c).After-used_length-length in
     let b = (rw (add-sub_cancel_left l.from n) at c.copy.ensures) ∙ t.bytes in
-    (search rules, omega arith, omega (arith, l.invariant.2), laid_more l.invariant.3 (omega (arith, t.size)) t.room b)
+    (omega (arith, l.invariant.0), laid_more l.invariant.1 (omega (arith, t.size)) t.room b)
 
 pub returns : goal.returns
-returns c = records_all c.args.s.now c.args.work.now (regions_inside _ c.requires.work_len.2).inside c.requires.out_len c.loop-r.invariant.3 (omega arith)
+returns c = records_all c.args.s.now c.args.work.now (regions_inside _ c.requires.work_len.2).inside c.requires.out_len c.loop-r.invariant.1 (omega arith)

@@ -1,13 +1,9 @@
-use Prim.Native.Nat.{◌+◌, ◌*◌, ◌-◌, ◌≤◌}
+use Prim.Native.Nat.{◌+◌, ◌*◌}
 use mathlib.Core.Path.{◌≡◌}
-use lib.ListN.{length}
 use Rattle.lists.proofs.Laid.{Laid}
 use Rattle.opentype.specs.Store.{regions_at, record_length}
 use Rattle.objects.proofs.Lists.{record_of}
 use Rattle.objects.proofs.put_records.Given as goal
 
 abbrev pub invariant-loop-r : goal.invariant-loop-r
-invariant-loop-r l = (length l.out ≡ length l.initial.out) × (l.r ≤ l.regions) × (l.from ≡ regions_at l.s + 4 + l.r * record_length l.s) × Laid (record_of l.s l.work) l.initial.out l.r l.next l.out
-
-abbrev pub decreases-loop-r : goal.decreases-loop-r
-decreases-loop-r l = l.regions - l.r
+invariant-loop-r l = (l.from ≡ regions_at l.s + 4 + l.r * record_length l.s) × Laid (record_of l.s l.work) l.initial.out l.r l.next l.out

@@ -1,19 +1,9 @@
 use native.Mathlib.Nat.{le_of_lt}
-use native.Mathlib.Omega.{arith}
 use Rattle.objects.proofs.Runs.{run_planned, run_named, run_length, run_bytes, ready_usable}
 use Rattle.objects.proofs.put_run.Goals as goal
 
-pub overflow_cast-work : goal.overflow_cast-work
-overflow_cast-work c = omega (arith, c.type_inv.work c.args.from)
-
 pub subtable_named-t-requires-clause-outer_value : goal.subtable_named-t-requires-clause-outer_value
 subtable_named-t-requires-clause-outer_value c = ready_usable c.requires.run_ready
-
-pub plan_columns-p-requires-clause-opened : goal.plan_columns-p-requires-clause-opened
-plan_columns-p-requires-clause-opened c = c.subtable_named-t.ensures.opened
-
-pub put_subtable-requires-clause-opened : goal.put_subtable-requires-clause-opened
-put_subtable-requires-clause-opened c = c.subtable_named-t.ensures.opened
 
 pub put_subtable-requires-clause-planned : goal.put_subtable-requires-clause-planned
 put_subtable-requires-clause-planned c =
@@ -36,12 +26,9 @@ put_subtable-requires-clause-out_len c =
     let p = c.plan_columns-p.ensures in
     run_length a.work.now a.from a.to p.work_unchanged (le_of_lt r.work_len.1) r.work_len.2 c.subtable_named-t.ensures p.planned r.work_len.0 r.out_len
 
-pub returns : goal.returns
-returns c =
+pub returns-clause-out_after : goal.returns-clause-out_after
+returns-clause-out_after c =
     let a = c.args in
     let r = c.requires in
     let p = c.plan_columns-p.ensures in
-    record {
-      out_after = run_bytes a.work.now a.from a.to p.work_unchanged (le_of_lt r.work_len.1) r.work_len.2 c.subtable_named-t.ensures p.planned c.put_subtable.ensures;
-      work_unchanged = p.work_unchanged;
-    }
+    run_bytes a.work.now a.from a.to p.work_unchanged (le_of_lt r.work_len.1) r.work_len.2 c.subtable_named-t.ensures p.planned c.put_subtable.ensures

@@ -4,23 +4,20 @@ use native.Mathlib.Nat.{add-sub_cancel_left}
 use native.Mathlib.Omega.{arith}
 use lib.ListN.{get_or, length-take, length-drop}
 use borrow.Author.Rules.{rules}
-use Rattle.objects.proofs.Going.{RunPart, going_run, going_first, pairs_few, going_climb, going_more, going_all}
+use Rattle.objects.proofs.Going.{RunPart, going_run, going_first, going_climb, going_more, going_all}
 use Rattle.objects.proofs.put_subtables.Goals as goal
 use Rattle.objects.proofs.put_subtables.Goals.{After-end_of_run-end}
 
 turn : (c : After-end_of_run-end) → let l = c.loop-at in RunPart c.args.s.now l.work l.out l.at c.end_of_run-end.result l.k l.next
 turn c =
     let l = c.loop-at in
-    going_run c.args.work.now c.requires.passed c.requires.work_len_bound c.requires.work_value (l.invariant.0 ∙ c.requires.passed.area) l.invariant.2 c.end_of_run-end.ensures
+    going_run c.args.work.now c.requires.passed c.requires.work_len_bound c.requires.work_value (l.auto.work ∙ c.requires.passed.area) l.invariant c.end_of_run-end.ensures
 
 pub loop-at-init : goal.loop-at-init
-loop-at-init c = (search rules, search rules, going_first _ _ c.requires.passed c.requires.out_len)
-
-pub end_of_run-end-requires-clause-n_in_bounds : goal.end_of_run-end-requires-clause-n_in_bounds
-end_of_run-end-requires-clause-n_in_bounds c = omega (arith, pairs_few c.args.work.now c.args.n c.requires.passed, c.requires.passed.area)
+loop-at-init c = going_first _ _ c.requires.passed c.requires.out_len
 
 pub end_of_run-end-requires-clause-pairs_value : goal.end_of_run-end-requires-clause-pairs_value
-end_of_run-end-requires-clause-pairs_value c = going_climb c.requires.passed c.loop-at.invariant.2
+end_of_run-end-requires-clause-pairs_value c = going_climb c.requires.passed c.loop-at.invariant
 
 pub overflow_add-stop : goal.overflow_add-stop
 overflow_add-stop c = omega (arith, turn c)
@@ -31,19 +28,8 @@ offset_bounds-work-k c = omega (arith, turn c)
 pub bounds-work-k : goal.bounds-work-k
 bounds-work-k c = omega (arith, turn (goal.at.bounds-work-k c).After-end_of_run-end, c.requires.passed.area)
 
-pub overflow_add-stop-in-loop-at : goal.overflow_add-stop-in-loop-at
-overflow_add-stop-in-loop-at c = omega (arith, turn (goal.at.overflow_add-stop-in-loop-at c).After-end_of_run-end)
-
-pub slice_bounds-put_run-count : goal.slice_bounds-put_run-count
-slice_bounds-put_run-count c = omega (arith, turn (goal.at.slice_bounds-put_run-count c).After-end_of_run-end)
-
 pub slice_bounds-put_run-end : goal.slice_bounds-put_run-end
 slice_bounds-put_run-end c = omega (arith, turn (goal.at.slice_bounds-put_run-end c).After-end_of_run-end)
-
-pub put_run-requires-clause-work_len : goal.put_run-requires-clause-work_len
-put_run-requires-clause-work_len c = let t = turn (goal.at.put_run-requires-clause-work_len c).After-end_of_run-end in
-    let l = c.loop-at in
-    (l.invariant.0 ∙ c.requires.passed.area, omega (arith, t.after), t.inside)
 
 pub put_run-requires-clause-run_ready : goal.put_run-requires-clause-run_ready
 put_run-requires-clause-run_ready c = (turn (goal.at.put_run-requires-clause-run_ready c).After-end_of_run-end).ready
@@ -57,13 +43,10 @@ put_run-requires-clause-out_len c = let t = turn (goal.at.put_run-requires-claus
 pub overflow_add-k : goal.overflow_add-k
 overflow_add-k c = omega (arith, turn (goal.at.overflow_add-k c).After-end_of_run-end)
 
-pub loop-at-smaller : goal.loop-at-smaller
-loop-at-smaller c = omega (arith, turn (goal.at.loop-at-smaller c).After-end_of_run-end)
-
 pub loop-at-preserved : goal.loop-at-preserved
 loop-at-preserved c = let l = c.loop-at in
-    (search rules, search rules, going_more c.args.work.now c.requires.passed c.requires.work_len_bound c.requires.work_value (l.invariant.0 ∙ c.requires.passed.area) l.invariant.2 c.end_of_run-end.ensures _ refl c.put_run.ensures.work_unchanged c.put_run.ensures.out_after)
+    going_more c.args.work.now c.requires.passed c.requires.work_len_bound c.requires.work_value (l.auto.work ∙ c.requires.passed.area) l.invariant c.end_of_run-end.ensures _ refl c.put_run.ensures.work_unchanged c.put_run.ensures.out_after
 
 pub returns : goal.returns
 returns c = let l = c.loop-at in
-    going_all c.requires.passed l.invariant.2 (search rules)
+    going_all c.requires.passed l.invariant (search rules)

@@ -1,11 +1,9 @@
 use Prim.Native.Nat.{◌-◌}
-use mathlib.Core.Path.{◌≡◌}
-use lib.ListN.{length}
 use Rattle.objects.proofs.Going.{Going}
 use Rattle.objects.proofs.put_subtables.Given as goal
 
 abbrev pub invariant-loop-at : goal.invariant-loop-at
-invariant-loop-at l = (length l.work ≡ length l.initial.work) × (length l.out ≡ length l.initial.out) × Going l.s l.initial.work l.n l.work l.out l.at l.k l.next
+invariant-loop-at l = Going l.s l.initial.work l.n l.work l.out l.at l.k l.next
 
 abbrev pub decreases-loop-at : goal.decreases-loop-at
 decreases-loop-at l = l.n - l.at

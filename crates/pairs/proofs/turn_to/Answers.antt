@@ -6,8 +6,8 @@ use Rattle.pairs.proofs.turn_to.Goals.{then-i-eq0-via-then-i-eq0, then-i-eq0-via
 pub returns-then-i-eq0 : goal.returns-then-i-eq0
 returns-then-i-eq0 c = let a = c.args in
     elim c.then-i-eq0.branch [
-      | then-i-eq0-via-then-i-eq0 w ↦ inners_first 2048 a.pairs.now a.i _ w.if-i-eq0.true c.clear.ensures
-      | then-i-eq0-via-else-i-eq0+then-pairs-i w ↦ inners_new 2048 a.pairs.now a.i c.requires.pairs_value c.requires.i_in_bounds w.if-i-eq0.false (omega (arith, w.if-pairs-i.true)) c.clear.ensures
+      | then-i-eq0-via-then-i-eq0 w ↦ inners_first _ a.pairs.now a.i _ w.if-i-eq0.true (c.fill.ensures.after (λ y e. e))
+      | then-i-eq0-via-else-i-eq0+then-pairs-i w ↦ inners_new _ a.pairs.now a.i c.requires.pairs_value c.requires.i_in_bounds w.if-i-eq0.false (omega (arith, w.if-pairs-i.true)) (c.fill.ensures.after (λ y e. e))
     ]
 
 pub returns-else-pairs-i : goal.returns-else-pairs-i

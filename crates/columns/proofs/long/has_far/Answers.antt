@@ -13,5 +13,5 @@ pub returns : goal.returns
 unfolding kept_deltas
 returns c =
     let a = c.args in
-    let h = any_from_yields_List (λ p. outside 65535 (delta a.s.now a.t.at (inner p) a.column)) _ _ c.any.result c.any.ensures.ran (YieldsList-from_slice a.pairs.now cc) (λ x b q k. search (rules, tests)) in
+    let h = any_from_yields_List (λ p. outside 65535 (delta a.t.now.bytes.now a.t.now.shape.at (inner p) a.column)) _ _ c.any.result c.any.ensures.ran (YieldsList-from_slice a.pairs.now cc) (λ x b q k. search (rules, tests)) in
     rw (any-map, any-map, any-list_any) h

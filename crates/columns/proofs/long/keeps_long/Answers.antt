@@ -9,9 +9,9 @@ pub returns-then-t : goal.returns-then-t
 unfolding far_in
 returns-then-t c =
     let a = c.args in
-    let far = far_in a.s.now a.t.at a.pairs.now in
-    let h = any_from_yields_List far _ _ c.any.result c.any.ensures.ran (YieldsList-from_range 0 a.t.words a.t.words (search rules) (omega arith)) (λ x b q k. search (rules, tests)) in
-    by_words c.requires a.pairs.now c.if-t.true c.any.result (some-list_any far a.t.words ∙ sym h)
+    let far = far_in a.t.now.bytes.now a.t.now.shape.at a.pairs.now in
+    let h = any_from_yields_List far _ _ c.any.result c.any.ensures.ran (YieldsList-from_range 0 a.t.now.shape.words a.t.now.shape.words (search rules) (omega arith)) (λ x b q k. search (rules, tests)) in
+    by_words c.args.t.now.opened a.pairs.now c.if-t.true c.any.result (some-list_any far a.t.now.shape.words ∙ sym h)
 
 pub returns-else-t : goal.returns-else-t
-returns-else-t c = c.if-t.false ∙ not-long c.requires c.args.pairs.now c.if-t.false
+returns-else-t c = c.if-t.false ∙ not-long c.args.t.now.opened c.args.pairs.now c.if-t.false

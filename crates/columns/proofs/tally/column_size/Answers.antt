@@ -8,15 +8,17 @@ use Rattle.columns.proofs.tally.column_size.Goals.{After-take-tally}
 
 -- one more delta is tallied
 turn : (c : After-take-tally) → let a = c.args in
-    Tallied a.s.now a.t.at a.pairs.now a.column (c.loop-pair.pair-index + 1) (number_of_size c.take-tally.result.size)
+    Tallied a.t.now.bytes.now a.t.now.shape.at a.pairs.now a.column (c.loop-pair.pair-index + 1) (number_of_size c.take-tally.result.size)
 turn c =
-    tallied_more c.loop-pair.invariant c.loop-pair-test.true (record { sfits = c.delta_of.type_inv }) c.delta_of.ensures c.take-tally.ensures
+    tallied_more c.loop-pair.invariant c.loop-pair-test.true (record { sfits = c.delta.type_inv }) c.delta.ensures c.take-tally.ensures
 
 pub loop-pair-init : goal.loop-pair-init
 loop-pair-init c = tallied_none _ _ _ _
 
 pub returns-then-number-end : goal.returns-then-number-end
-returns-then-number-end c = tallied_most (turn (goal.at.returns-then-number-end c).After-take-tally) c.args.long c.cell_size-cell.result (c.cell_size-cell.ensures ∙ rw (c.requires.long, c.requires.words)) c.enough-end.ensures
+returns-then-number-end c =
+    let o = c.args.t.now.opened in
+    tallied_most (turn (goal.at.returns-then-number-end c).After-take-tally) c.args.long c.cell_size-cell.result (c.cell_size-cell.ensures ∙ rw (o.long, o.words)) c.enough-end.ensures
     (omega (arith, c.number.ensures, c.if-number-end.true))
 
 pub loop-pair-preserved : goal.loop-pair-preserved

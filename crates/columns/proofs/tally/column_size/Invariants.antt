@@ -3,4 +3,4 @@ use Rattle.columns.proofs.Tallies.{Tallied}
 use Rattle.columns.proofs.tally.column_size.Given as goal
 
 abbrev pub invariant-loop-pair : goal.invariant-loop-pair
-invariant-loop-pair l = Tallied l.s l.t.at l.pairs l.column l.pair-index (number_of_size l.tally.size)
+invariant-loop-pair l = Tallied l.t.bytes.now l.t.shape.at l.pairs l.column l.pair-index (number_of_size l.tally.size)

@@ -28,6 +28,7 @@ invariant_of-result c = record {
   sound = sym c.bad_regions.ensures ∙ c.if-bad_regions.false;
   place = c.u32_at-at.ensures.is;
   axis_count = rw (← c.u32_at-at.ensures.is) c.u16_at.ensures.is;
+  axes_bound = omega (arith, c.u16_at.ensures.small);
   region_count = rw (← c.u32_at-at.ensures.is) c.u16_at-2.ensures.is;
 }
 
