@@ -4,8 +4,10 @@ ghost use Rattle.rules.specs.Lists.{outer};
 ghost use Rattle.numbering.specs.Numbered.{Numbered};
 ghost use Rattle.maps.specs.Plans.{Bounds};
 
+use rules::WorkArea;
+
 // Where the run of the k-th pair starts.
-fn run_start(work: &[u32], n: usize, k: usize) -> usize
+fn run_start(work: &WorkArea, n: usize, k: usize) -> usize
     requires numbered { Numbered work.now n }
     requires k_lt_n { k < n }
     ensures { (result ≡ get_or work.now (8192 + outer (get_or work.now k 0)) 0) × (result ≤ k) }
@@ -15,7 +17,7 @@ fn run_start(work: &[u32], n: usize, k: usize) -> usize
 }
 
 // The largest place of a pair in its run: the last pair of a run has it, so only these are looked at, from the last run to the first.
-pub fn inner_limit(work: &[u32], n: usize) -> u32
+pub fn inner_limit(work: &WorkArea, n: usize) -> u32
     requires { Numbered work.now n }
     ensures { Bounds n work.now result }
 {

@@ -1,5 +1,5 @@
 // The maps of a table, and the pairs that they give the listed glyphs: refusals 12 and 13.
-ghost use Rattle.std.specs.Prelude.{◌≡◌, true, false, ◌+◌, ◌*◌, ◌≤◌, ◌<◌, eqb, length, is_some, MatchResult};
+ghost use Rattle.std.specs.Prelude.{◌≡◌, true, false, ℕ, get_or, ◌+◌, ◌*◌, ◌≤◌, ◌<◌, eqb, length, is_some, MatchResult};
 ghost use Rattle.lists.specs.Pick.{pick, both};
 ghost use Rattle.opentype.specs.Table.{map_at};
 ghost use Rattle.rules.specs.Open.{bad_map};
@@ -17,6 +17,7 @@ pub struct Sources<'a> {
     pub maps: usize,
     pub ghost room: { 8 + 4 * maps ≤ length table.now },
     pub ghost sound: { bad_maps maps table.now ≡ false },
+    pub ghost octets: { (i : ℕ) → get_or table.now i 0 < 256 },
 }
 
 // One of its maps, where it is present.

@@ -3,7 +3,7 @@ use mathlib.Core.Path.{◌≡◌}
 use native.Mathlib.Omega.{arith}
 use Rattle.rules.specs.Lists.{old_id}
 use Rattle.rules.specs.Maps.{new_entry}
-use Rattle.sources.specs.Pairs.{pair_at}
+use Rattle.sources.specs.Pairs.{pair_in}
 use Rattle.maps.specs.Plans.{kept_in}
 use Rattle.maps.proofs.Plans.{renumbered_is}
 use Rattle.maps.proofs.Bytes.{entry_is}
@@ -12,8 +12,8 @@ use Rattle.maps.proofs.entry_of.Goals.{After-renumbered-new}
 
 -- what is worked out is the entry
 entry : (c : After-renumbered-new) → let a = c.args in let r = c.renumbered-new.result in
-    r.outer * (1 * 2 ^ a.bits % 4294967296) + r.inner ≡ new_entry a.bits (kept_in a.n a.work.now) (pair_at a.t.now a.map.at (old_id a.entry))
-entry c = let d = renumbered_is c.glyph_pair-old.ensures c.renumbered-new.ensures in entry_is _ _ _ c.requires.bits_bound.0 d.outer d.inner
+    r.outer * (1 * 2 ^ a.bits % 4294967296) + r.inner ≡ new_entry a.bits (kept_in a.n a.work.now) (pair_in a.source.now (old_id a.entry))
+entry c = let d = renumbered_is c.pair-old.ensures c.renumbered-new.ensures in entry_is _ _ _ c.requires.bits_bound.0 d.outer d.inner
 
 pub overflow_mul-result : goal.overflow_mul-result
 overflow_mul-result c = omega (arith, c.requires.bits_bound.1, entry (goal.at.overflow_mul-result c).After-renumbered-new)

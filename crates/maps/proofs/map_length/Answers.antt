@@ -1,13 +1,7 @@
 use mathlib.Core.Path.{refl}
 use native.Mathlib.Omega.{arith}
 use native.Mathlib.Nat.{mul-le-mul}
-use Rattle.maps.specs.Plans.{length_of}
 use Rattle.maps.proofs.map_length.Goals as goal
 
-pub returns-then-p : goal.returns-then-p
-unfolding length_of
-returns-then-p c = let h = mul-le-mul c.requires.0 c.requires.1 in rw c.if-p.true (refl, omega arith)
-
-pub returns-else-p : goal.returns-else-p
-unfolding length_of
-returns-else-p c = rw c.if-p.false (refl, omega arith)
+pub returns-in-Some : goal.returns-in-Some
+returns-in-Some c = let h = mul-le-mul c.in-Some.p.entries c.in-Some.p.bytes.1 in rw c.in-Some.is (refl, omega arith)

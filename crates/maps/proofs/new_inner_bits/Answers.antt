@@ -1,7 +1,7 @@
 use borrow.Author.Rules.{rules}
 use Rattle.rules.specs.Lists.{old_id}
 use Rattle.rules.specs.Numbering.{new_inner}
-use Rattle.sources.specs.Pairs.{pair_at}
+use Rattle.sources.specs.Pairs.{pair_in}
 use Rattle.maps.specs.Plans.{kept_in}
 use Rattle.maps.proofs.Plans.{renumbered_is, under_limit}
 use Rattle.maps.proofs.Most.{Most, most_none, most_more, most_under, most_end, bits_full, bits_all}
@@ -10,15 +10,15 @@ use Rattle.maps.proofs.new_inner_bits.Goals.{After-max-most}
 
 -- one more glyph, from the end
 turn : (c : After-max-most) → let a = c.args in
-    Most (λ e. new_inner (kept_in a.n a.work.now) (pair_at a.t.now a.map.at (old_id e))) a.glyphs.now c.next.new.self.iter.rest.now c.max-most.result
+    Most (λ e. new_inner (kept_in a.n a.work.now) (pair_in a.source.now (old_id e))) a.glyphs.now c.next.new.self.iter.rest.now c.max-most.result
 turn c =
-    rw c.max-most.ensures (most_more c.loop-entry.invariant c.in-Some.ensures.steps (renumbered_is c.glyph_pair-old.ensures c.renumbered-new.ensures).inner)
+    rw c.max-most.ensures (most_more c.loop-entry.invariant c.in-Some.ensures.steps (renumbered_is c.pair-old.ensures c.renumbered-new.ensures).inner)
 
 pub loop-entry-init : goal.loop-entry-init
 loop-entry-init c = most_none (search rules)
 
 pub returns-then-inner_bits-full : goal.returns-then-inner_bits-full
-returns-then-inner_bits-full c = bits_full (most_under (turn (goal.at.returns-then-inner_bits-full c).After-max-most)) (under_limit c.requires.kept c.requires.bounds) c.ranges.limit.fits c.inner_bits-full.ensures c.inner_bits.ensures c.if-inner_bits-full.true
+returns-then-inner_bits-full c = bits_full (most_under (turn (goal.at.returns-then-inner_bits-full c).After-max-most)) (under_limit _ c.requires.kept c.requires.bounds) c.ranges.limit.fits c.inner_bits-full.ensures c.inner_bits.ensures c.if-inner_bits-full.true
 
 pub loop-entry-preserved : goal.loop-entry-preserved
 loop-entry-preserved c = turn (goal.at.loop-entry-preserved c).After-max-most

@@ -5,7 +5,7 @@ use Rattle.maps.proofs.put_entries.Goals as goal
 use Rattle.maps.proofs.put_entries.Goals.{then-is_listed, else-is_listed}
 
 pub loop-id-init : goal.loop-id-init
-loop-id-init c = entered_none _ _ _ _ _ _ c.requires.entries_fit.rise
+loop-id-init c = entered_none _ _ _ _ _ c.requires.entries_fit.rise
 
 pub loop-id-preserved : goal.loop-id-preserved
 loop-id-preserved c = let i = c.loop-id.invariant in
