@@ -28,7 +28,7 @@ pub fn put_header(out: &mut [u8], sources: &Sources<'_>, plans: &[Option<MapPlan
 {
     let head = 8 + 4 * sources.maps;
     put_version(out, sources.table);
-    cells::put_u32(out, 4, head as u32);
+    cells::put_number::<4>(out, 4, head as u32);
     put_offsets(&mut out[8..head], plans, first);
 }
 

@@ -56,7 +56,7 @@ pub fn put_offsets(out: &mut [u8], plans: &[Option<MapPlan>], first: usize)
 {
     let mut at = first;
     for (m, &plan) in plans.iter().enumerate() {
-        cells::put_u32(out, 4 * m, offset_of(plan, at));
+        cells::put_number::<4>(out, 4 * m, offset_of(plan, at));
         at += map_length(plan);
     }
 }

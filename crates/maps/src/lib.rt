@@ -171,9 +171,9 @@ fn put_head(out: &mut [u8], p: MapPlan)
     requires { 4 ≤ length out.old }
     ensures { Wrote out.old 0 (head_of p) out.new }
 {
-    cells::put_u8(out, 0, 0);
-    cells::put_u8(out, 1, ((p.size - 1) * 16 + (p.bits - 1)) as u32);
-    cells::put_u16(out, 2, p.count as u32);
+    cells::put_number::<1>(out, 0, 0);
+    cells::put_number::<1>(out, 1, ((p.size - 1) * 16 + (p.bits - 1)) as u32);
+    cells::put_number::<2>(out, 2, p.count as u32);
 }
 
 // A map, into its part of the output.

@@ -6,4 +6,4 @@ use Rattle.frame.proofs.header.put_header.Goals as goal
 pub returns : goal.returns
 returns c =
     let s = c.args.sources.now in
-    header_laid s.maps s.table.now c.args.out.now (omega (arith, s.room)) (search rules) c.put_version.ensures _ c.requires.maps_bound.1 c.put_u32.ensures (rw c.requires.as_many at c.put_offsets.ensures)
+    header_laid s.maps s.table.now c.args.out.now (omega (arith, s.room)) (search rules) c.put_version.ensures _ c.requires.maps_bound.1 c.put_number.ensures (rw c.requires.as_many at c.put_offsets.ensures)

@@ -12,7 +12,7 @@ pub loop-m-preserved : goal.loop-m-preserved
 loop-m-preserved c =
     let plan = get_or_read c.args.plans.now c.loop-m.m c.index-plans-m.result c.loop-m-test.true c.index-plans-m.is None in
     let n = rw plan at c.map_length-at.ensures in
-    (search rules, offsets_more c.loop-m.invariant.1 c.put_u32.ensures (rw plan at c.offset_of.ensures) n.0 n.1)
+    (search rules, offsets_more c.loop-m.invariant.1 c.put_number.ensures (rw plan at c.offset_of.ensures) n.0 n.1)
 
 pub returns : goal.returns
 returns c = offsets_end _ c.loop-m.invariant.1 (omega arith) c.requires.1
