@@ -42,9 +42,9 @@ fn put_header(out: &mut [u8], p: Columns, items: usize)
     requires { (length out.old ≡ 6) × (items ≤ 8192) }
     ensures { out.new ≡ be_bytes 2 items ++ be_bytes 2 (pick p.counts.long 0x8000 0 + p.counts.wide) ++ be_bytes 2 (p.counts.wide + p.counts.narrow) }
 {
-    cells::put_u16(out, 0, items as u32);
-    cells::put_u16(out, 2, word_field(p));
-    cells::put_u16(out, 4, (p.counts.wide + p.counts.narrow) as u32);
+    cells::put_number::<2>(out, 0, items as u32);
+    cells::put_number::<2>(out, 2, word_field(p));
+    cells::put_number::<2>(out, 4, (p.counts.wide + p.counts.narrow) as u32);
 }
 
 impl<'a> Kept<'a> {
@@ -64,7 +64,7 @@ impl<'a> Kept<'a> {
         for j in 0..p.wide + p.narrow {
             let r = self.subtable.region_index(column_at(work, p.wide, j)) as usize;
             let new = bits::rank_below(&work[8704..8832], r);
-            cells::put_u16(out, 2 * j, new as u32);
+            cells::put_number::<2>(out, 2 * j, new as u32);
         }
     }
 

@@ -5,5 +5,5 @@ use Rattle.subtables.proofs.put_header.Goals as goal
 
 pub returns : goal.returns
 returns c = rw (← c.word_field.ensures)
-    (three_laid c.put_u16.ensures c.put_u16-2.ensures c.put_u16-3.ensures
+    (three_laid c.put_number.ensures c.put_number-2.ensures c.put_number-3.ensures
     (simp length-be_bytes) (simp length-be_bytes) (simp length-be_bytes) (search rules))

@@ -30,7 +30,7 @@ pub loop-j-preserved : goal.loop-j-preserved
 loop-j-preserved c =
     let k = c.args.self.now in
     let n = named (goal.at.loop-j-preserved c).After-region_index-r in
-    indexes_more k.subtable.bytes.now k.subtable.shape.at k.work.now k.columns.counts.wide _ c.loop-j.invariant (turn (goal.at.loop-j-preserved c).In-loop-j) c.put_u16.ensures
+    indexes_more k.subtable.bytes.now k.subtable.shape.at k.work.now k.columns.counts.wide _ c.loop-j.invariant (turn (goal.at.loop-j-preserved c).In-loop-j) c.put_number.ensures
     c.rank_below-new.ensures.value c.region_index-r.ensures.value c.column_at.ensures n.0 n.1
 
 pub returns : goal.returns
