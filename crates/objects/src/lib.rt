@@ -16,7 +16,7 @@ ghost use Rattle.plan.specs.Layout.{Passed};
 ghost use Rattle.objects.specs.Offsets.{offsets_by};
 ghost use Rattle.objects.specs.Runs.{run_in, RunReady};
 
-use cells::{put_u16, put_u32};
+use cells::put_number;
 use plan::{Layout, list_length};
 use readers::store::{Regions, Store};
 use rows::plan_columns;
@@ -29,9 +29,9 @@ pub fn put_header(out: &mut [u8], list: usize, count: usize)
     requires list_bound { (list < 2 ^ 32) × (count < 2 ^ 32) }
     ensures { out.new ≡ be_bytes 2 1 ++ be_bytes 4 list ++ be_bytes 2 count }
 {
-    put_u16(out, 0, 1);
-    put_u32(out, 2, list as u32);
-    put_u16(out, 6, count as u32);
+    put_number::<2>(out, 0, 1);
+    put_number::<4>(out, 2, list as u32);
+    put_number::<2>(out, 6, count as u32);
 }
 
 // The offsets of the subtables, by the lengths in the work area.
@@ -42,7 +42,7 @@ pub fn put_offsets(out: &mut [u8], work: &WorkArea, count: usize, first: usize)
 {
     let mut next = first;
     for (k, &length) in work[8832..8832 + count].iter().enumerate() {
-        put_u32(out, 4 * k, next as u32);
+        put_number::<4>(out, 4 * k, next as u32);
         next += length as usize;
     }
 }
@@ -86,8 +86,8 @@ pub fn put_region_list(out: &mut [u8], work: &WorkArea, l: &Layout<'_>)
 {
     let axes = l.regions.axes;
     let end = list_length(l.used, axes);
-    put_u16(out, 0, axes as u32);
-    put_u16(out, 2, l.used as u32);
+    put_number::<2>(out, 0, axes as u32);
+    put_number::<2>(out, 2, l.used as u32);
     put_records(&mut out[4..end], work, &l.regions);
 }
 

@@ -11,4 +11,4 @@ loop-k-init c =
 pub loop-k-preserved : goal.loop-k-preserved
 loop-k-preserved c =
     let n = noted_length c.args.work.now c.args.count c.told-work c.requires.out_len.0 in
-    offset_more c.loop-k.invariant (omega arith) c.put_u32.ensures (rw (add-sub_cancel_left 8832 c.args.count))
+    offset_more c.loop-k.invariant (omega arith) c.put_number.ensures (rw (add-sub_cancel_left 8832 c.args.count))
