@@ -83,7 +83,7 @@ pub fn measure_runs(
     let mut at = 0;
     // A turn goes on where its run ends, and no iterator lends the runs: the turn writes to the numbers that hold them.
     while at < n {
-        let end = pairs::end_of_run(work, at, n);
+        let end = pairs::end_of_run(&work[..n], at);
         let t = s.subtable((work[at] / 65536) as usize)?;
         m = measure_run(work, &t, m, at, end, regions);
         at = end;

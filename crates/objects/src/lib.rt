@@ -119,7 +119,7 @@ pub fn put_subtables(out: &mut [u8], work: &mut WorkArea, s: &Store<'_>, n: usiz
     let mut k = 0;
     // A turn goes on where its run ends, and no iterator lends the runs: the turn writes to the numbers that hold them.
     while at < n {
-        let end = pairs::end_of_run(work, at, n);
+        let end = pairs::end_of_run(&work[..n], at);
         let stop = next + work[8832 + k] as usize;
         put_run(&mut out[next..stop], work, s, at, end);
         next = stop;

@@ -187,6 +187,17 @@ one_within {ps} {n} {from} r h = record {
   alike = λ k a b. rw (get_or-take n ps k 0 (omega arith), get_or-take n ps from 0 (omega arith)) at (r.alike k a b);
 }
 
+-- a run of the first n pairs ends where theirs does
+pub front_end : {w : List ℕ} {n from end : ℕ} → n ≤ length w → RunEnd (take n w) (length (take n w)) from end → RunEnd w n from end
+front_end {w} {n} {from} {end} h r =
+    let l = length-take-le n w h in
+    let inside : end ≤ n = omega (arith, r.inside, l) in
+    record {
+      one = one_within r.one inside;
+      inside = inside;
+      other = λ k. rw (get_or-take n w end 0 (omega arith), get_or-take n w from 0 (omega (arith, r.one.after))) at (r.other (omega (arith, l)));
+    }
+
 -- ---- the first run of what is left
 
 part_of : (ps : List ℕ) (n from end : ℕ) → from ≤ end → end ≤ n → n ≤ length ps → take (end - from) (drop from (take n ps)) ≡ take (end - from) (drop from ps)

@@ -93,19 +93,18 @@ fn leap(pairs: &[u32], from: usize) -> usize
     from + 1 + 8 * eights.len()
 }
 
-// The place of the first of the n pairs, behind `from`, that has another outer; n where none has.
-pub fn end_of_run(pairs: &[u32], from: usize, n: usize) -> usize
-    requires n_in_bounds { n ≤ length pairs.now }
-    requires from_lt_n { from < n }
-    requires pairs_value { outers_fall (take n pairs.now) ≡ false }
-    ensures { RunEnd pairs.now n from result }
+// The place of the first pair behind `from` that has another outer; their count where none has.
+pub fn end_of_run(pairs: &[u32], from: usize) -> usize
+    requires from_in_bounds { from < length pairs.now }
+    requires pairs_value { outers_fall pairs.now ≡ false }
+    ensures { RunEnd pairs.now (length pairs.now) from result }
 {
     let outer = pairs[from] / 65536;
-    let start = leap(&pairs[..n], from);
-    for k in start..n {
+    let start = leap(pairs, from);
+    for k in start..pairs.len() {
         if pairs[k] / 65536 != outer {
             return k;
         }
     }
-    n
+    pairs.len()
 }

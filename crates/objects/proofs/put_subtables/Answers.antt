@@ -3,6 +3,7 @@ use mathlib.Core.Path.{refl}
 use native.Mathlib.Nat.{add-sub_cancel_left}
 use native.Mathlib.Omega.{arith}
 use lib.ListN.{get_or, length-take, length-drop}
+use Rattle.pairs.proofs.Laws.{front_end}
 use Rattle.objects.proofs.Going.{RunPart, going_run, going_first, going_climb, going_more, going_all}
 use Rattle.objects.proofs.put_subtables.Goals as goal
 use Rattle.objects.proofs.put_subtables.Goals.{After-end_of_run-end}
@@ -10,7 +11,7 @@ use Rattle.objects.proofs.put_subtables.Goals.{After-end_of_run-end}
 turn : (c : After-end_of_run-end) → let l = c.loop-at in RunPart c.args.s.now.bytes.now l.work l.out l.at c.end_of_run-end.result l.k l.next
 turn c =
     let l = c.loop-at in
-    going_run c.args.work.now c.requires.passed c.requires.runs_bound c.requires.work_value l.invariant c.end_of_run-end.ensures
+    going_run c.args.work.now c.requires.passed c.requires.runs_bound c.requires.work_value l.invariant (front_end (omega (arith, l.invariant.area)) c.end_of_run-end.ensures)
 
 pub loop-at-init : goal.loop-at-init
 loop-at-init c = going_first _ _ c.told-work c.requires.passed c.requires.out_len
@@ -47,7 +48,7 @@ pub loop-at-preserved : goal.loop-at-preserved
 loop-at-preserved c =
     let l = c.loop-at in
     let r = c.put_run in
-    going_more c.args.work.now c.requires.passed c.requires.runs_bound c.requires.work_value l.invariant c.end_of_run-end.ensures _ r.ensures.work_len refl r.ensures.work_unchanged r.ensures.out_after
+    going_more c.args.work.now c.requires.passed c.requires.runs_bound c.requires.work_value l.invariant (front_end (omega (arith, l.invariant.area)) c.end_of_run-end.ensures) _ r.ensures.work_len refl r.ensures.work_unchanged r.ensures.out_after
 
 pub returns : goal.returns
 returns c = going_all c.requires.passed c.loop-at.invariant (omega arith)
