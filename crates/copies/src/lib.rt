@@ -1,14 +1,7 @@
-// Bytes copied from one part to another.
+// Bytes copied from one part to another, in blocks.
 #![tactic(auto)]
 
 ghost use Rattle.std.specs.Prelude.{◌+◌, ◌≤◌, ◌≡◌, true, length, take};
-
-pub fn copy(out: &mut [u8], s: &[u8])
-    requires { length out.old ≡ length s.now }
-    ensures { out.new ≡ s.now }
-{
-    out.copy_from_slice(s);
-}
 
 // By way of a block of its own: the compiler then moves all 32 bytes at once, as it need not ask whether the two parts overlap.
 fn copy_block(out: &mut [u8], s: &[u8])
@@ -35,7 +28,7 @@ pub fn copy_ahead(out: &mut [u8], s: &[u8], n: usize)
     ensures { take n out.new ≡ take n s.now }
 {
     if !has_blocks(out.len(), s.len(), n) {
-        copy(&mut out[..n], &s[..n]);
+        out[..n].copy_from_slice(&s[..n]);
         return;
     }
     let blocks = n.div_ceil(32);
