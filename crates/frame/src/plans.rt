@@ -9,7 +9,8 @@ ghost use Rattle.frame.specs.Plans.{Collected, place_of, offset_at, MapsPlanned,
 use maps::limit::inner_limit;
 use maps::plan::MapPlan;
 use maps::{map_length, plan_map, put_map};
-use rules::{Refusal, WorkArea};
+use numbering::KeptPairs;
+use rules::Refusal;
 use sources::named::Sources;
 
 // The plans of at most four maps, and the bytes of all.
@@ -21,21 +22,20 @@ pub struct Plans {
 
 // 14
 pub fn plan_maps(
-    work: &WorkArea,
-    n: usize,
+    kept: &KeptPairs<'_>,
     sources: &Sources<'_>,
     glyphs: &[u32],
 ) -> Result<Plans, Refusal>
-    requires { Collected sources.now.maps sources.now.table.now glyphs.now n work.now }
+    requires { Collected sources.now.maps sources.now.table.now glyphs.now kept.now.count kept.now.work.now }
     ensures { MatchResult result
         (λ p. (length p.plans ≡ 4) × MapsPlanned sources.now.maps sources.now.table.now glyphs.now (take sources.now.maps p.plans) p.length sources.now.maps)
         (λ r. (r ≡ Refusal.WideEntry) × (some (λ m. wide_entry sources.now.table.now (kept_runs sources.now.maps sources.now.table.now glyphs.now) glyphs.now m) sources.now.maps ≡ true)) }
 {
-    let limit = inner_limit(work, n);
+    let limit = inner_limit(kept);
     let mut plans = [None; 4];
     let mut length = 0;
     for m in 0..sources.maps {
-        let plan = plan_map(work, n, sources, m, glyphs, limit)?;
+        let plan = plan_map(kept, sources, m, glyphs, limit)?;
         length += map_length(plan);
         plans[m] = plan;
     }
@@ -63,13 +63,12 @@ pub fn put_offsets(out: &mut [u8], plans: &[Option<MapPlan>], first: usize)
 
 pub fn put_maps(
     out: &mut [u8],
-    work: &WorkArea,
-    n: usize,
+    kept: &KeptPairs<'_>,
     sources: &Sources<'_>,
     glyphs: &[u32],
     plans: &[Option<MapPlan>],
 )
-    requires collected { Collected sources.now.maps sources.now.table.now glyphs.now n work.now }
+    requires collected { Collected sources.now.maps sources.now.table.now glyphs.now kept.now.count kept.now.work.now }
     requires planned { MapsPlanned sources.now.maps sources.now.table.now glyphs.now plans.now (length out.old) sources.now.maps }
     ensures { out.new ≡ gather (λ m. part_at sources.now.maps sources.now.table.now glyphs.now m) sources.now.maps }
 {
@@ -78,7 +77,7 @@ pub fn put_maps(
         let end = at + map_length(plan);
         // A map that is not written has no bytes.
         if let Some(p) = plan {
-            put_map(&mut out[at..end], work, n, sources, m, glyphs, p);
+            put_map(&mut out[at..end], kept, sources, m, glyphs, p);
         }
         at = end;
     }

@@ -26,6 +26,7 @@ use Rattle.lists.specs.Pick.{both}
 use Rattle.laws.specs.GlyphPairs.{pow_bytes}
 use Rattle.laws.specs.Packed.{map-length}
 use Rattle.readers.proofs.Maps.{shifted_one}
+use Rattle.numbering.specs.Numbered.{Numbered}
 use Rattle.maps.specs.declared.plan.MapPlan.{MapPlan}
 use Rattle.maps.specs.Plans.{kept_in, head_of, entry_piece, entries_of, Ready, EntriesFit, Planned, MapPlanned, length_of}
 use Rattle.maps.proofs.Plans.{kept_at, packs}
@@ -88,9 +89,9 @@ module _ (t : List ℕ) (rs : List Run) (es : List ℕ) (m : ℕ) where
 -- ---- a written map
 
 module _ {n : ℕ} {w t es : List ℕ} {m : ℕ} {p : MapPlan} (r : Ready n w t es m) (d : Planned t (kept_in n w) es m p) (pair : ℕ → ℕ) (e : pair ≡ pair_of t m) where
-  pub fits : ((i : ℕ) → get_or t i 0 < 256) → both (present t m) (bad_map t (map_at t m)) ≡ false → EntriesFit n w pair es p.bits
-  fits bytes sound =
-      let q = packs r d.written bytes sound in
+  pub fits : Numbered w n → ((i : ℕ) → get_or t i 0 < 256) → both (present t m) (bad_map t (map_at t m)) ≡ false → EntriesFit n w pair es p.bits
+  fits k bytes sound =
+      let q = packs r d.written k bytes sound in
       let size : ℕ = entry_size (map_plan t (kept_in n w) es m) in
       let room = pow_mono {i = 8 * size} {j = 32} (omega (arith, d.size, p.bytes.1)) in
       record {

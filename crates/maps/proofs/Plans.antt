@@ -34,11 +34,9 @@ use Rattle.numbering.specs.Numbered.{Numbered, Renumbered, Checked}
 use Rattle.maps.specs.Plans.{kept_in, largest_of, Kept, Ready, Bounds}
 
 -- a map of a table that passed its checks, with its kept pairs collected
-pub ready : {maps count n m : ℕ} {w t es : List ℕ} → Checked maps count t es → bad_glyphs es ≡ false → Numbered w n → take n w ≡ kept_pairs maps t es → m < maps
-    → Ready n w t es m
-ready {maps} {n = n} {m} {w} {t} {es} c g d e l = record {
+pub ready : {maps count n m : ℕ} {w t es : List ℕ} → Checked maps count t es → bad_glyphs es ≡ false → take n w ≡ kept_pairs maps t es → m < maps → Ready n w t es m
+ready {maps} {n = n} {m} {w} {t} {es} c g e l = record {
   glyphs = good_glyphs es g;
-  numbered = d;
   kept = λ h k b. rw e (kept_member maps t es m k l h b);
 }
 
@@ -100,12 +98,12 @@ module _ {n : ℕ} {w t es : List ℕ} {m : ℕ} (r : Ready n w t es m) (on : is
   abbrev plan : PlanOf
   plan = map_plan t (kept_in n w) es m
 
-  pub packs : ((i : ℕ) → get_or t i 0 < 256) → both (present t m) (bad_map t (map_at t m)) ≡ false → Packed t (kept_in n w) es m plan
+  pub packs : Numbered w n → ((i : ℕ) → get_or t i 0 < 256) → both (present t m) (bad_map t (map_at t m)) ≡ false → Packed t (kept_in n w) es m plan
   unfolding is_written
-  packs bytes sound =
+  packs d bytes sound =
       let all : AllKept (take n w) t es m = record {
-        climbs = r.numbered.climbs;
-        few = omega (arith, length-take n w, r.numbered.few);
+        climbs = d.climbs;
+        few = omega (arith, length-take n w, d.few);
         each = r.kept (both_hold (counts t m) (differ (length es) 0) on).0;
       } in
       packed all bytes r.glyphs (some_listed t es m on) (not_second (present t m) (bad_map t (map_at t m)) sound)
@@ -113,7 +111,7 @@ module _ {n : ℕ} {w t es : List ℕ} {m : ℕ} (r : Ready n w t es m) (on : is
   module _ (pair : ℕ → ℕ) (e : pair ≡ pair_of t m) where
     pub kept_at : Kept n w pair es
     unfolding is_written
-    kept_at = record { numbered = r.numbered; each = rw e (r.kept (both_hold (counts t m) (differ (length es) 0) on).0) }
+    kept_at = record { each = rw e (r.kept (both_hold (counts t m) (differ (length es) 0) on).0) }
 
     pub count_is : {count : ℕ} → count ≡ count_of pair es → count ≡ plan.count
     unfolding map_plan

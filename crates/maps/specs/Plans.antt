@@ -10,7 +10,6 @@ use Rattle.rules.specs.Numbering.{counts, pair_of, new_inner}
 use Rattle.rules.specs.Maps.{is_written, map_plan, entry_size, new_entry, entry_at}
 use Rattle.laws.specs.Glyphs.{Glyphs}
 use Rattle.maps.specs.declared.plan.MapPlan.{MapPlan}
-use Rattle.numbering.specs.Numbered.{Numbered}
 
 -- the kept items of the used subtables
 abbrev pub kept_in : ℕ → List ℕ → List Run
@@ -33,7 +32,6 @@ entries_of rs pair es p = gather (entry_piece rs pair es p) p.count
 
 -- the pairs of the listed glyphs are kept
 pub record Kept (n : ℕ) (w : List ℕ) (pair : ℕ → ℕ) (es : List ℕ) : Type 0 where
-  pub numbered : Numbered w n
   pub each : (k : ℕ) → k < length es → member (pair (old_id (get_or es k 0))) (take n w) ≡ true
 
 -- entries with so many inner bits can be written: those of the listed glyphs fit 32 bits
@@ -42,11 +40,9 @@ pub record EntriesFit (n : ℕ) (w : List ℕ) (pair : ℕ → ℕ) (es : List �
   pub rise : Rises 0 (map (λ e. new_id e) es)
   pub each : (k : ℕ) → k < length es → new_entry bits (kept_in n w) (pair (old_id (get_or es k 0))) < 2 ^ 32
 
--- What stands when map m is planned or written: the glyph list was accepted, and the pairs of its glyphs are among those that stand numbered
--- in the work area.
+-- What stands when map m is planned or written: the glyph list was accepted, and the pairs of its glyphs are among the kept ones.
 pub record Ready (n : ℕ) (w t es : List ℕ) (m : ℕ) : Type 0 where
   pub glyphs : Glyphs es
-  pub numbered : Numbered w n
   pub kept : counts t m ≡ true → (k : ℕ) → k < length es → member (pair_of t m (old_id (get_or es k 0))) (take n w) ≡ true
 
 -- no new inner of the kept pairs is above the limit

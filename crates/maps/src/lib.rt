@@ -10,15 +10,14 @@ ghost use Rattle.rules.specs.Lists.{new_id, old_id};
 ghost use Rattle.rules.specs.declared.Refusal.{Refusal};
 ghost use Rattle.rules.specs.Maps.{count_of, bits_for, wide_entry, new_entry, map_bytes};
 ghost use Rattle.sources.specs.Pairs.{pair_in};
-ghost use Rattle.numbering.specs.Numbered.{Numbered};
 ghost use Rattle.maps.specs.Plans.{kept_in, largest_of, head_of, entries_of, Kept, Ready, EntriesFit, Bounds, Planned, MapPlanned, length_of};
 
 pub mod limit;
 pub mod plan;
 
-use numbering::renumbered;
+use numbering::KeptPairs;
 use plan::MapPlan;
-use rules::{Refusal, WorkArea};
+use rules::Refusal;
 use sources::named::{Source, Sources};
 
 // The pair of a listed glyph as one number.
@@ -54,16 +53,16 @@ fn count_of(source: &Source<'_>, glyphs: &[u32]) -> usize
 }
 
 // The bits of the largest new inner of the listed glyphs. None has more bits than the limit, so one that has as many ends the search.
-fn new_inner_bits(work: &WorkArea, n: usize, source: &Source<'_>, glyphs: &[u32], limit: u32) -> u32
-    requires kept { Kept n work.now (pair_in source.now) glyphs.now }
-    requires bounds { Bounds n work.now limit }
-    ensures { result ≡ bits_for (largest_of (kept_in n work.now) (pair_in source.now) glyphs.now) }
+fn new_inner_bits(kept: &KeptPairs<'_>, source: &Source<'_>, glyphs: &[u32], limit: u32) -> u32
+    requires kept { Kept kept.now.count kept.now.work.now (pair_in source.now) glyphs.now }
+    requires bounds { Bounds kept.now.count kept.now.work.now limit }
+    ensures { result ≡ bits_for (largest_of (kept_in kept.now.count kept.now.work.now) (pair_in source.now) glyphs.now) }
 {
     let full = bits::inner_bits(limit);
     let mut most = 0;
     for entry in glyphs.iter().rev() {
         let old = source.pair((*entry % 65536) as usize);
-        let new = renumbered(work, n, old);
+        let new = kept.renumbered(old);
         most = u32::max(most, new.inner);
         if bits::inner_bits(most) == full {
             return full;
@@ -85,25 +84,24 @@ fn outer_bits(source: &Source<'_>) -> usize
 
 // Another absent map is not written; empty list: no map written. 14
 pub fn plan_map(
-    work: &WorkArea,
-    n: usize,
+    kept: &KeptPairs<'_>,
     sources: &Sources<'_>,
     m: usize,
     glyphs: &[u32],
     limit: u32,
 ) -> Result<Option<MapPlan>, Refusal>
     requires m_bound { m < sources.now.maps }
-    requires ready { Ready n work.now sources.now.table.now glyphs.now m }
-    requires bounds { Bounds n work.now limit }
+    requires ready { Ready kept.now.count kept.now.work.now sources.now.table.now glyphs.now m }
+    requires bounds { Bounds kept.now.count kept.now.work.now limit }
     ensures { MatchResult result
-        (λ plan. MapPlanned sources.now.table.now (kept_in n work.now) glyphs.now m plan)
-        (λ r. (r ≡ Refusal.WideEntry) × (wide_entry sources.now.table.now (kept_in n work.now) glyphs.now m ≡ true)) }
+        (λ plan. MapPlanned sources.now.table.now (kept_in kept.now.count kept.now.work.now) glyphs.now m plan)
+        (λ r. (r ≡ Refusal.WideEntry) × (wide_entry sources.now.table.now (kept_in kept.now.count kept.now.work.now) glyphs.now m ≡ true)) }
 {
     let source = sources.source(m);
     if glyphs.is_empty() || !source.counts(m) {
         return Ok(None);
     }
-    let bits = new_inner_bits(work, n, &source, glyphs, limit) as usize;
+    let bits = new_inner_bits(kept, &source, glyphs, limit) as usize;
     let size = (outer_bits(&source) + bits).div_ceil(8);
     if size > 4 {
         return Err(Refusal::WideEntry);
@@ -122,14 +120,13 @@ pub fn map_length(plan: Option<MapPlan>) -> usize
 }
 
 // The entry of a listed glyph.
-fn entry_of(work: &WorkArea, n: usize, source: &Source<'_>, entry: u32, bits: usize) -> u32
-    requires numbered { Numbered work.now n }
-    requires work_value { member (pair_in source.now (old_id entry)) (take n work.now) ≡ true }
-    requires bits_bound { (bits < 32) × (new_entry bits (kept_in n work.now) (pair_in source.now (old_id entry)) < 2 ^ 32) }
-    ensures { result ≡ new_entry bits (kept_in n work.now) (pair_in source.now (old_id entry)) }
+fn entry_of(kept: &KeptPairs<'_>, source: &Source<'_>, entry: u32, bits: usize) -> u32
+    requires kept_value { member (pair_in source.now (old_id entry)) (take kept.now.count kept.now.work.now) ≡ true }
+    requires bits_bound { (bits < 32) × (new_entry bits (kept_in kept.now.count kept.now.work.now) (pair_in source.now (old_id entry)) < 2 ^ 32) }
+    ensures { result ≡ new_entry bits (kept_in kept.now.count kept.now.work.now) (pair_in source.now (old_id entry)) }
 {
     let old = source.pair((entry % 65536) as usize);
-    let new = renumbered(work, n, old);
+    let new = kept.renumbered(old);
     new.outer * (1u32 << bits) + new.inner
 }
 
@@ -143,22 +140,21 @@ fn is_listed(glyphs: &[u32], k: usize, id: usize) -> bool
 // The entries of a map, behind its 4 bytes. New ids not in the list get 0.
 fn put_entries(
     out: &mut [u8],
-    work: &WorkArea,
-    n: usize,
+    kept: &KeptPairs<'_>,
     source: &Source<'_>,
     glyphs: &[u32],
     p: MapPlan,
 )
-    requires entries_fit { EntriesFit n work.now (pair_in source.now) glyphs.now p.bits }
+    requires entries_fit { EntriesFit kept.now.count kept.now.work.now (pair_in source.now) glyphs.now p.bits }
     requires out_len { length out.old ≡ 4 + p.count * p.size }
-    ensures { Wrote out.old 4 (entries_of (kept_in n work.now) (pair_in source.now) glyphs.now p) out.new }
+    ensures { Wrote out.old 4 (entries_of (kept_in kept.now.count kept.now.work.now) (pair_in source.now) glyphs.now p) out.new }
 {
     let mut at = 4;
     let mut k = 0;
     for id in 0..p.count {
         let mut entry = 0;
         if is_listed(glyphs, k, id) {
-            entry = entry_of(work, n, source, glyphs[k], p.bits);
+            entry = entry_of(kept, source, glyphs[k], p.bits);
             k += 1;
         }
         cells::put_entry(out, at, p.size, entry);
@@ -179,19 +175,18 @@ fn put_head(out: &mut [u8], p: MapPlan)
 // A map, into its part of the output.
 pub fn put_map(
     out: &mut [u8],
-    work: &WorkArea,
-    n: usize,
+    kept: &KeptPairs<'_>,
     sources: &Sources<'_>,
     m: usize,
     glyphs: &[u32],
     p: MapPlan,
 )
     requires m_bound { m < sources.now.maps }
-    requires ready { Ready n work.now sources.now.table.now glyphs.now m }
-    requires planned { Planned sources.now.table.now (kept_in n work.now) glyphs.now m p }
+    requires ready { Ready kept.now.count kept.now.work.now sources.now.table.now glyphs.now m }
+    requires planned { Planned sources.now.table.now (kept_in kept.now.count kept.now.work.now) glyphs.now m p }
     requires out_len { length out.old ≡ 4 + p.count * p.size }
-    ensures { out.new ≡ map_bytes sources.now.table.now (kept_in n work.now) glyphs.now m }
+    ensures { out.new ≡ map_bytes sources.now.table.now (kept_in kept.now.count kept.now.work.now) glyphs.now m }
 {
     put_head(out, p);
-    put_entries(out, work, n, &sources.source(m), glyphs, p);
+    put_entries(out, kept, &sources.source(m), glyphs, p);
 }

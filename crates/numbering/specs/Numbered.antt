@@ -1,5 +1,7 @@
 -- The kept pairs and the numbers of their runs, as they stand in the work area.
-use Rattle.std.specs.Prelude.{ℕ, ◌+◌, ◌*◌, ◌<◌, ◌≤◌, ◌≡◌, Bool, true, false, List, map, ltb, length, get_or, take}
+use Rattle.std.specs.Prelude.{ℕ, ◌+◌, ◌*◌, ◌<◌, ◌≤◌, ◌≡◌, Bool, true, false, List, [], ◌∷◌, map, ltb, length, get_or, take}
+use Rattle.std.specs.Coded.{×_prop, Unit-prop, le_prop}
+use Rattle.std.proofs.Props.{props}
 use Rattle.lists.specs.Gather.{keep, rank}
 use Rattle.lists.specs.Search.{member}
 use Rattle.rules.specs.Lists.{outer, twice, runs, most_glyphs}
@@ -25,6 +27,14 @@ pub record Numbered (w : List ℕ) (n : ℕ) : Type 0 where
   pub low : (o : ℕ) → used (take n w) o ≡ true → o < 256
   pub starts : (o : ℕ) → used (take n w) o ≡ true → get_or w (8192 + o) 0 ≡ start_of (take n w) o
   pub numbers : (o : ℕ) → used (take n w) o ≡ true → get_or w (8448 + o) 0 ≡ rank (used (take n w)) o
+
+-- A ghost field holds that they are numbered, so it has at most one proof.
+Climbs-prop : (b : ℕ) (ps : List ℕ) → IsProp (Climbs b ps)
+Climbs-prop b [] = Unit-prop
+Climbs-prop b (p ∷ ps) = ×_prop le_prop (Climbs-prop (outer p) ps)
+
+pub Numbered-prop : (w : List ℕ) (n : ℕ) → IsProp (Numbered w n)
+Numbered-prop w n = Prim.hlevel (props, Climbs-prop)
 
 -- a pair, by its parts, is one of the pairs
 pub record Among (ps : List ℕ) (p : Pair) : Type 0 where

@@ -9,9 +9,17 @@
 ghost use Rattle.std.specs.Prelude.{◌≡◌, false, ◌+◌, ◌*◌, ◌≤◌, ◌<◌, IfSome, take};
 ghost use Rattle.lists.specs.Search.{place};
 ghost use Rattle.rules.specs.Lists.{outer, twice};
-ghost use Rattle.numbering.specs.Numbered.{Among, Numbered, Renumbered};
+ghost use Rattle.numbering.specs.Numbered.{Among, Numbered, Numbered-prop, Renumbered};
 
 use rules::{Pair, WorkArea};
+
+// The kept pairs of a table: the first `count` numbers of the work area, with the starts and the new numbers of their runs behind them.
+#[derive(Clone, Copy)]
+pub struct KeptPairs<'a> {
+    pub work: &'a WorkArea,
+    pub count: usize,
+    pub ghost numbered: { Numbered work.now count } by { Numbered-prop work.now count },
+}
 
 // The segment that a pair would begin behind the last one: in the same outer, that is the second of outer 0.
 fn segment_at(last: u32, pair: u32) -> usize
@@ -103,16 +111,6 @@ pub fn index(work: &mut WorkArea, n: usize)
     }
 }
 
-// Where a pair stands by the index, if it stands in the segment: there, or a little behind where a slot is for several inners.
-fn guess(work: &WorkArea, segment: usize, inner: u32) -> usize
-    requires { (segment ≤ 256) × (inner < 65536) }
-    ensures { result ≤ 4294967295 }
-{
-    let spot = spot_of(inner, work[9345] % 16);
-    let slot = (work[9088 + segment] as usize + spot) % 4096;
-    work[12288 + slot] as usize
-}
-
 // The check of a guess: the place of a number that stands at h or less than 32 behind it, with lesser ones between.
 // No number stands twice, so where it is found is its place.
 fn place_near(list: &[u32], h: usize, x: u32) -> Option<usize>
@@ -138,36 +136,48 @@ fn place_among(list: &[u32], x: u32) -> usize
     list.iter().position(|y| x == *y).unwrap_or(list.len())
 }
 
-// The place of a kept pair in the list: by the first of the two guesses that holds, or else what a walk through its run finds.
-fn place_of(work: &WorkArea, n: usize, p: Pair) -> usize
-    requires numbered { Numbered work.now n }
-    requires among { Among (take n work.now) p }
-    ensures { result ≡ place (p.outer * 65536 + p.inner) (take n work.now) }
-{
-    let kept = &work[..n];
-    let outer = p.outer as usize;
-    let inner = p.inner;
-    let pair = p.outer * 65536 + p.inner;
-    if let Some(first) = place_near(kept, guess(work, outer, inner), pair) {
-        return first;
+impl KeptPairs<'_> {
+    // Where a pair stands by the index, if it stands in the segment: there, or a little behind where a slot is for several inners.
+    fn guess(&self, segment: usize, inner: u32) -> usize
+        requires { (segment ≤ 256) × (inner < 65536) }
+        ensures { result ≤ 4294967295 }
+    {
+        let work = self.work;
+        let spot = spot_of(inner, work[9345] % 16);
+        let slot = (work[9088 + segment] as usize + spot) % 4096;
+        work[12288 + slot] as usize
     }
-    if let Some(second) = place_near(kept, guess(work, 256, inner), pair) {
-        return second;
-    }
-    let from = work[8192 + outer] as usize;
-    from + place_among(&kept[from..], pair)
-}
 
-// A kept pair's new outer and new inner: the number of its outer's run, and its place in it.
-pub fn renumbered(work: &WorkArea, n: usize, p: Pair) -> Pair
-    requires numbered { Numbered work.now n }
-    requires among { Among (take n work.now) p }
-    ensures { Renumbered (take n work.now) (p.outer * 65536 + p.inner) result }
-{
-    let outer = p.outer as usize;
-    let at = place_of(work, n, p);
-    Pair {
-        outer: work[8448 + outer],
-        inner: (at - work[8192 + outer] as usize) as u32,
+    // The place of a kept pair in the list: by the first of the two guesses that holds, or else what a walk through its run finds.
+    fn place_of(&self, p: Pair) -> usize
+        requires { Among (take self.now.count self.now.work.now) p }
+        ensures { result ≡ place (p.outer * 65536 + p.inner) (take self.now.count self.now.work.now) }
+    {
+        let work = self.work;
+        let kept = &work[..self.count];
+        let outer = p.outer as usize;
+        let inner = p.inner;
+        let pair = p.outer * 65536 + p.inner;
+        if let Some(first) = place_near(kept, self.guess(outer, inner), pair) {
+            return first;
+        }
+        if let Some(second) = place_near(kept, self.guess(256, inner), pair) {
+            return second;
+        }
+        let from = work[8192 + outer] as usize;
+        from + place_among(&kept[from..], pair)
+    }
+
+    // A kept pair's new outer and new inner: the number of its outer's run, and its place in it.
+    pub fn renumbered(&self, p: Pair) -> Pair
+        requires { Among (take self.now.count self.now.work.now) p }
+        ensures { Renumbered (take self.now.count self.now.work.now) (p.outer * 65536 + p.inner) result }
+    {
+        let outer = p.outer as usize;
+        let at = self.place_of(p);
+        Pair {
+            outer: self.work[8448 + outer],
+            inner: (at - self.work[8192 + outer] as usize) as u32,
+        }
     }
 }

@@ -12,7 +12,7 @@ use Rattle.maps.proofs.entry_of.Goals.{After-renumbered-new}
 
 -- what is worked out is the entry
 entry : (c : After-renumbered-new) → let a = c.args in let r = c.renumbered-new.result in
-    r.outer * (1 * 2 ^ a.bits % 4294967296) + r.inner ≡ new_entry a.bits (kept_in a.n a.work.now) (pair_in a.source.now (old_id a.entry))
+    r.outer * (1 * 2 ^ a.bits % 4294967296) + r.inner ≡ new_entry a.bits (kept_in a.kept.now.count a.kept.now.work.now) (pair_in a.source.now (old_id a.entry))
 entry c = let d = renumbered_is c.pair-old.ensures c.renumbered-new.ensures in entry_is _ _ _ c.requires.bits_bound.0 d.outer d.inner
 
 pub overflow_mul-result : goal.overflow_mul-result

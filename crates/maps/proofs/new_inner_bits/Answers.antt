@@ -10,7 +10,7 @@ use Rattle.maps.proofs.new_inner_bits.Goals.{After-max-most}
 
 -- one more glyph, from the end
 turn : (c : After-max-most) → let a = c.args in
-    Most (λ e. new_inner (kept_in a.n a.work.now) (pair_in a.source.now (old_id e))) a.glyphs.now c.next.new.self.iter.rest.now c.max-most.result
+    Most (λ e. new_inner (kept_in a.kept.now.count a.kept.now.work.now) (pair_in a.source.now (old_id e))) a.glyphs.now c.next.new.self.iter.rest.now c.max-most.result
 turn c =
     rw c.max-most.ensures (most_more c.loop-entry.invariant c.in-Some.ensures.steps (renumbered_is c.pair-old.ensures c.renumbered-new.ensures).inner)
 

@@ -6,4 +6,4 @@ use Rattle.maps.proofs.Most.{Most}
 use Rattle.maps.proofs.new_inner_bits.Given as goal
 
 abbrev pub invariant-loop-entry : goal.invariant-loop-entry
-invariant-loop-entry l = Most (λ e. new_inner (kept_in l.n l.work) (pair_in l.source (old_id e))) l.glyphs l.entry-iterator.iter.rest.now l.most
+invariant-loop-entry l = Most (λ e. new_inner (kept_in l.kept.count l.kept.work.now) (pair_in l.source (old_id e))) l.glyphs l.entry-iterator.iter.rest.now l.most

@@ -32,7 +32,7 @@ pub invariant_of-result : goal.invariant_of-result
 invariant_of-result c =
     let on = written (goal.at.invariant_of-result c).Else-not-counts in
     let same = pairs_same _ _ _ c.source-source.ensures in
-    let q = packs c.requires.ready on c.args.sources.now.octets (map_good _ _ _ c.args.sources.now.sound c.requires.m_bound) in
+    let q = packs c.requires.ready on c.args.kept.now.numbered c.args.sources.now.octets (map_good _ _ _ c.args.sources.now.sound c.requires.m_bound) in
     let count = count_is c.requires.ready on _ same c.count_of-count.ensures in
     let bits = bits_is c.requires.ready on _ same c.new_inner_bits-bits.ensures in
     record { entries = rw count q.few_entries; inner = rw bits (q.some_bits, q.few_bits); bytes = omega arith }
