@@ -7,7 +7,6 @@ ghost use Rattle.opentype.specs.Subtable.{word_size, rest_size, cell_size, delta
 ghost use Rattle.rows.specs.Area.{items};
 ghost use Rattle.rows.specs.Length.{row_of};
 ghost use Rattle.subtables.specs.Kept.{Fitting};
-ghost use Rattle.subtables.specs.Written.{columns_from, cells_of};
 
 use crate::Kept;
 use readers::subtable::Subtable;
@@ -38,15 +37,14 @@ fn low_of(t: &Subtable<'_>, item: usize, column: usize, size: usize) -> u32
 }
 
 impl<'a> Kept<'a> {
-    ghost use Rattle.subtables.specs.Rows.{new_row};
+    ghost use Rattle.subtables.specs.Rows.{new_cells, new_row};
 
     // Writes the deltas of an item in `count` kept columns, from the first-th on, in cells of one size.
     fn put_cells(&self, out: &mut [u8], item: usize, first: usize, count: usize, size: usize)
         requires cells { (first + count ≤ 4096) × CellSize size }
         requires fitting { Fitting self.now.subtable.shape self.now.work.now self.now.columns.counts.wide first count size }
         requires out_len { length out.old ≡ count * size }
-        ensures { out.new ≡ cells_of self.now.subtable.bytes.now self.now.subtable.shape.at item size
-            (columns_from self.now.work.now self.now.columns.counts.wide first count) }
+        ensures { out.new ≡ new_cells self.now item first count size }
     {
         let wide = self.columns.counts.wide;
         for k in 0..count {

@@ -12,11 +12,10 @@ ghost use Rattle.cells.specs.Be.{be_bytes};
 ghost use Rattle.opentype.specs.Store.{region_count};
 ghost use Rattle.rules.specs.Columns.{plan_of};
 ghost use Rattle.rules.specs.Rewrite.{planned_bytes};
-ghost use Rattle.rows.specs.Area.{part, items, columns_in, used_of};
+ghost use Rattle.rows.specs.Area.{part, items, used_of};
 ghost use Rattle.rows.specs.Planned.{Planned, Inside};
 ghost use Rattle.rows.specs.Length.{row_of, planned_length};
 ghost use Rattle.subtables.specs.Kept.{Named, Fitted};
-ghost use Rattle.subtables.specs.Written.{indexes_of};
 
 use readers::subtable::Subtable;
 use rows::{Columns, column_at};
@@ -48,7 +47,7 @@ fn put_header(out: &mut [u8], p: Columns, items: usize)
 }
 
 impl<'a> Kept<'a> {
-    ghost use Rattle.subtables.specs.Rows.{new_row};
+    ghost use Rattle.subtables.specs.Rows.{new_indexes, new_row};
 
     // Writes the new index of the region that each kept column names: how many used regions are below it.
     fn put_regions(&self, out: &mut [u8])
@@ -56,8 +55,7 @@ impl<'a> Kept<'a> {
         requires named { Named self.now.subtable.bytes.now self.now.subtable.shape.at self.now.work.now self.now.columns.counts }
         requires few { region_count self.now.subtable.bytes.now ≤ 4096 }
         requires out_len { length out.old ≡ 2 * (self.now.columns.counts.wide + self.now.columns.counts.narrow) }
-        ensures { out.new ≡ indexes_of self.now.subtable.bytes.now self.now.subtable.shape.at
-            (used_of self.now.subtable.bytes.now self.now.work.now) (columns_in self.now.work.now self.now.columns.counts.wide self.now.columns.counts.narrow) }
+        ensures { out.new ≡ new_indexes self.now }
     {
         let work = self.work;
         let p = self.columns.counts;
@@ -73,10 +71,9 @@ impl<'a> Kept<'a> {
         requires { length out.old ≡ length pairs.now * row_of self.now.columns.counts }
         ensures { out.new ≡ flat (λ i. new_row self.now i) (items pairs.now) }
     {
-        if self.is_whole() {
-            self.put_whole_rows(out, pairs);
-        } else {
-            self.put_new_rows(out, pairs);
+        match self.whole() {
+            Some(whole) => whole.put_rows(out, pairs),
+            None => self.put_new_rows(out, pairs),
         }
     }
 }

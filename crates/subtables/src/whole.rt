@@ -1,8 +1,9 @@
 // Rows kept whole: copied from the source.
-ghost use Rattle.std.specs.Prelude.{◌<◌, ◌*◌, ◌≤◌, ◌≡◌, true, length, take};
+ghost use Rattle.std.specs.Prelude.{◌<◌, ◌*◌, ◌≤◌, ◌≡◌, true, length, take, IfSome};
 ghost use Rattle.lists.specs.Gather.{flat};
 ghost use Rattle.opentype.specs.Subtable.{row};
 ghost use Rattle.rows.specs.Area.{items};
+ghost use Rattle.rows.specs.Length.{row_of};
 ghost use Rattle.subtables.specs.Kept.{Own, KeptWhole};
 
 use crate::Kept;
@@ -10,6 +11,13 @@ use copies::copy_ahead;
 use readers::subtable::Subtable;
 use rows::column_at;
 use rules::WorkArea;
+
+// Every column is kept where it stands, in a cell of its old size: each written row is one of the source.
+#[derive(Clone, Copy)]
+pub struct Whole<'a> {
+    pub kept: Kept<'a>,
+    pub ghost whole: { KeptWhole kept.subtable.shape kept.work.now kept.columns.counts },
+}
 
 // Whether the first columns are kept where they stand.
 fn is_own(work: &WorkArea, wide: usize, columns: usize) -> bool
@@ -29,45 +37,47 @@ fn source_from<'a>(t: &Subtable<'a>, item: usize) -> &'a [u8]
 }
 
 impl<'a> Kept<'a> {
-    ghost use Rattle.subtables.specs.Rows.{new_row};
-
-    // Whether every column is kept where it stands, in a cell of its old size: then each written row is one of the source.
-    pub fn is_whole(&self) -> bool
-        ensures { result ≡ true → KeptWhole self.now.subtable.shape self.now.work.now self.now.columns.counts }
+    pub fn whole(&self) -> Option<Whole<'a>>
+        ensures { IfSome result (λ w. w.kept ≡ self.now) }
     {
         let t = self.subtable.shape;
         let p = self.columns.counts;
-        p.long == t.long
-            && p.wide == t.words
-            && p.wide + p.narrow == t.columns
-            && is_own(self.work, p.wide, t.columns)
+        if p.long != t.long || p.wide != t.words || p.wide + p.narrow != t.columns {
+            return None;
+        }
+        if !is_own(self.work, p.wide, t.columns) {
+            return None;
+        }
+        Some(Whole { kept: *self })
     }
+}
+
+impl<'a> Whole<'a> {
+    ghost use Rattle.subtables.specs.Rows.{new_row};
 
     // Writes the row of an item to the front of the output. What lies behind it there is not promised: the rows to come are written over it.
-    fn put_whole_row(&self, out: &mut [u8], item: usize)
-        requires whole { KeptWhole self.now.subtable.shape self.now.work.now self.now.columns.counts }
-        requires row_in_bounds { self.now.subtable.shape.row ≤ length out.old }
-        ensures { take self.now.subtable.shape.row out.new ≡ new_row self.now item }
+    fn put_row(&self, out: &mut [u8], item: usize)
+        requires { self.now.kept.subtable.shape.row ≤ length out.old }
+        ensures { take self.now.kept.subtable.shape.row out.new ≡ new_row self.now.kept item }
     {
-        let row = self.subtable.shape.row;
-        if item < self.subtable.shape.items {
-            copy_ahead(out, source_from(&self.subtable, item), row);
+        let t = &self.kept.subtable;
+        if item < t.shape.items {
+            copy_ahead(out, source_from(t, item), t.shape.row);
         } else {
-            self.put_row(&mut out[..row], item);
+            self.kept.put_row(&mut out[..t.shape.row], item);
         }
     }
 
     // Writes the rows of the pairs' items.
-    pub fn put_whole_rows(&self, out: &mut [u8], pairs: &[u32])
-        requires whole { KeptWhole self.now.subtable.shape self.now.work.now self.now.columns.counts }
-        requires out_len { length out.old ≡ length pairs.now * self.now.subtable.shape.row }
-        ensures { out.new ≡ flat (λ i. new_row self.now i) (items pairs.now) }
+    pub fn put_rows(&self, out: &mut [u8], pairs: &[u32])
+        requires { length out.old ≡ length pairs.now * row_of self.now.kept.columns.counts }
+        ensures { out.new ≡ flat (λ i. new_row self.now.kept i) (items pairs.now) }
     {
-        let row = self.subtable.shape.row;
+        let row = self.kept.subtable.shape.row;
         let mut at = 0;
         for pair in pairs {
             let item = (*pair % 65536) as usize;
-            self.put_whole_row(&mut out[at..], item);
+            self.put_row(&mut out[at..], item);
             at += row;
         }
     }

@@ -2,7 +2,7 @@ use Prim.Native.Nat.{◌+◌, ◌*◌, ◌-◌}
 use mathlib.Core.Path.{◌≡◌, ◌∙◌}
 use native.Mathlib.Omega.{arith}
 use lib.ListN.{length}
-use borrow.Rule.Slice.PartMut.{mid_len as pairs_length}
+use borrow.Rule.Slice.PartMut.{mid_len}
 use Rattle.rows.specs.Area.{part}
 use Rattle.rows.specs.Length.{row_of, planned_length}
 use Rattle.rows.proofs.Plans.{planned_inside}
@@ -30,10 +30,10 @@ put_regions-requires-clause-inside c = planned_inside c.requires.planned
 
 pub put_rows-requires : goal.put_rows-requires
 put_rows-requires c =
-    rw (pairs_length c.args.from c.args.to c.args.work.now (omega (arith, c.told-work)))
+    rw (mid_len c.args.from c.args.to c.args.work.now (omega (arith, c.told-work)))
     (omega (arith, whole (goal.at.put_rows-requires c).Start, c.split_at_mut-header.ensures.back_len, c.split_at_mut-indexes.ensures.back_len))
 
 pub returns : goal.returns
 returns c =
-    let n = pairs_length c.args.from c.args.to c.args.work.now (omega (arith, c.told-work)) in
+    let n = mid_len c.args.from c.args.to c.args.work.now (omega (arith, c.told-work)) in
     subtable_laid (part c.args.work.now c.args.from c.args.to) c.requires.planned (c.put_header.ensures ∙ rw n) c.put_regions.ensures c.put_rows.ensures

@@ -7,9 +7,6 @@ use Rattle.opentype.specs.Subtable.{row_at, row}
 use Rattle.readers.proofs.Subtables.{row_ends}
 use Rattle.subtables.proofs.whole.source_from.Goals as goal
 
-pub overflow_mul-result : goal.overflow_mul-result
-overflow_mul-result c = omega (arith, row_ends c.args.t.now.opened c.args.item c.requires)
-
 pub returns-clause-value : goal.returns-clause-value
 unfolding row_at row
 returns-clause-value c =
