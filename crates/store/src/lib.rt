@@ -27,14 +27,12 @@ pub fn put_store(out: &mut [u8], work: &mut WorkArea, n: usize, l: &Layout<'_>)
     requires out_len { length out.old ≡ l.now.length }
     ensures { out.new ≡ store_bytes l.now.regions.store.bytes.now (runs (take n work.old)) }
 {
-    let count = l.count;
-    let head = 8 + 4 * count;
+    let head = 8 + 4 * l.count;
     let list = head + list_length(l.used, l.regions.axes);
-    let end = l.length;
-    put_header(&mut out[0..8], head, count);
-    put_offsets(&mut out[8..head], work, count, list);
+    put_header(&mut out[0..8], head, l.count);
+    put_offsets(&mut out[8..head], work, l.count, list);
     put_region_list(&mut out[head..list], work, l);
-    put_subtables(&mut out[list..end], work, &l.regions.store, n);
+    put_subtables(&mut out[list..l.length], work, &l.regions.store, n);
 }
 
 // What follows 3, for the first n pairs of the work area: the store's other checks, 10, and the result.
