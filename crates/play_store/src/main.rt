@@ -4,7 +4,7 @@
 
 ghost use Rattle.std.specs.Prelude.{◌≡◌, ◌*◌, length};
 
-use cells::u32_at;
+use cells::number_at;
 use rules::Answer;
 use std::io;
 use std::io::Read;
@@ -34,7 +34,7 @@ fn pairs_of(pairs: &mut [u32], raw: &[u8])
     requires { length raw.now ≡ 4 * length pairs.old }
 {
     for (i, pair) in pairs.iter_mut().enumerate() {
-        *pair = u32_at(raw, 4 * i);
+        *pair = number_at::<4>(raw, 4 * i);
     }
 }
 
@@ -55,14 +55,14 @@ fn head_of(raw: &[u8]) -> Head
     requires { length raw.now ≡ 32 }
 {
     Head {
-        keep: u32_at(raw, 0) == 1,
-        area: u32_at(raw, 4) as usize,
-        room: u32_at(raw, 8) as usize,
-        bytes: u32_at(raw, 12) as usize,
-        pairs: u32_at(raw, 16) as usize,
-        number: u32_at(raw, 20),
-        length: u32_at(raw, 24) as usize,
-        want: u32_at(raw, 28) as usize,
+        keep: number_at::<4>(raw, 0) == 1,
+        area: number_at::<4>(raw, 4) as usize,
+        room: number_at::<4>(raw, 8) as usize,
+        bytes: number_at::<4>(raw, 12) as usize,
+        pairs: number_at::<4>(raw, 16) as usize,
+        number: number_at::<4>(raw, 20),
+        length: number_at::<4>(raw, 24) as usize,
+        want: number_at::<4>(raw, 28) as usize,
     }
 }
 

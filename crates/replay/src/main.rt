@@ -9,7 +9,7 @@ mod memory;
 
 use anyhow::{Context, Result};
 use call::{Asked, Cut};
-use cells::u32_at;
+use cells::number_at;
 use std::io::Read;
 use std::{fs, io};
 
@@ -60,18 +60,18 @@ fn play_next(file: &mut impl Read) -> Result<bool, Broken> {
     let mut head = [0u8; 28];
     file.read_exact(&mut head).map_err(|_| Broken)?;
     let asked = Asked {
-        cut: Cut::from(u32_at(&head, 0)),
-        number: u32_at(&head, 20),
+        cut: Cut::from(number_at::<4>(&head, 0)),
+        number: number_at::<4>(&head, 20),
     };
     play(
         file,
         Record {
             asked,
-            length: u32_at(&head, 4) as usize,
-            listed: u32_at(&head, 8) as usize,
-            area: u32_at(&head, 12) as usize,
-            room: u32_at(&head, 16) as usize,
-            answered: u32_at(&head, 24) as usize,
+            length: number_at::<4>(&head, 4) as usize,
+            listed: number_at::<4>(&head, 8) as usize,
+            area: number_at::<4>(&head, 12) as usize,
+            room: number_at::<4>(&head, 16) as usize,
+            answered: number_at::<4>(&head, 24) as usize,
         },
     )
 }
@@ -96,7 +96,7 @@ fn main(rt: HostRuntime) -> Result<()> {
     let mut file = fs::open(&rt, "calls").context("calls")?;
     let mut head = [0u8; 4];
     file.read_exact(&mut head).context("calls")?;
-    let count = u32_at(&head, 0);
+    let count = number_at::<4>(&head, 0);
     told(&rt, count, "calls", play_all(&mut file, count))?;
     told(&rt, examples::COUNT, "examples", examples::play())?;
     Ok(())

@@ -1,7 +1,7 @@
 // Lent memory, marked before a call and looked at after it.
 ghost use Rattle.std.specs.Prelude.{◌≡◌, ◌*◌, length};
 
-use cells::u32_at;
+use cells::number_at;
 
 pub const OUT_MARK: u8 = 165;
 
@@ -12,7 +12,7 @@ pub fn numbers(raw: &[u8], list: &mut [u32])
     requires { length raw.now ≡ 4 * length list.old }
 {
     for (i, number) in list.iter_mut().enumerate() {
-        *number = u32_at(raw, 4 * i);
+        *number = number_at::<4>(raw, 4 * i);
     }
 }
 
