@@ -1,7 +1,6 @@
 -- What a cut answers and writes, given its outcome, once the work area is long enough; and the promise from it.
 use Rattle.std.specs.Prelude.{ℕ, ◌≤◌, ◌<◌, ◌≡◌, refl, List, ◌++◌, length, drop, Ok, Err}
 use Rattle.std.proofs.Common.{lt-ltb, le-ltb}
-use Rattle.lists.proofs.Parts.{put_again}
 use Rattle.rules.specs.declared.Refusal.{Refusal}
 use Rattle.rules.specs.declared.Refusal.TheVariants.{WorkArea, ShortOutput}
 use Rattle.rules.specs.Numbers.{Outcome, refused, written, Answer}
@@ -44,10 +43,10 @@ promise_1 o work out h =
     untouched (refused q) = refl
     untouched (written bytes) = refl
 
--- the work area is lent twice: to the cut, which leaves anything there, and to be cleared
-pub promise_of : {o : Outcome} {work : List ℕ} (w : List ℕ) {v out out' : List ℕ} {answer : Answer} → work_length ≤ length work → length w ≡ work_length
-    → v ≡ zeros work_length → Fitted o out answer out' → Promise o work out answer (v ++ drop work_length (w ++ drop work_length work)) out'
+-- the first numbers of the lent work are cleared in the end
+pub promise_of : {o : Outcome} {work v out out' : List ℕ} {answer : Answer} → work_length ≤ length work → v ≡ zeros work_length
+    → Fitted o out answer out' → Promise o work out answer (v ++ drop work_length work) out'
 unfolding answer_of work_of
-promise_of {work = work} w h n z f =
+promise_of {work = work} h z f =
     let e = le-ltb (length work) work_length h in
-    record { answers = rw e f.answers; outputs = rw e f.outputs; clears = rw e (put_again work w work_length n z) }
+    record { answers = rw e f.answers; outputs = rw e f.outputs; clears = rw (e, z) }

@@ -22,10 +22,6 @@ put_next old done more a e p l h q r =
     let k : a + (e - a) ≡ e = omega arith in
     simp (p, q, take_at done (drop a old) a l, drop_at done (drop a old) a l, drop-drop (e - a) a old, k, ← r, append_assoc)
 
--- The first n are lent twice: what the first call left there is gone.
-pub put_again : (old w : List ℕ) (n : ℕ) {v v' : List ℕ} → length w ≡ n → v ≡ v' → v ++ drop n (w ++ drop n old) ≡ v' ++ drop n old
-put_again old w n l q = rw (q, drop_at w (drop n old) n l)
-
 -- Two parts of which one ends where the other starts are laid in any order.
 pub put_apart : (a e k : ℕ) (xs u v : List ℕ) → a ≤ e → e ≤ length xs → length u ≡ e - a → put_mid a (e - a) (put_mid e k xs v) u ≡ put_mid e k (put_mid a (e - a) xs u) v
 put_apart a e k xs u v h g l =

@@ -1,5 +1,4 @@
 pub mod Filled
 pub mod Lists
 pub mod Runs
-pub mod Opened
 pub mod Going

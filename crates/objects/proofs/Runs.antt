@@ -27,9 +27,9 @@ use Rattle.rules.specs.Rewrite.{planned_bytes, subtable_bytes}
 use Rattle.rules.specs.StoreCut.{some_column, bad_region_index}
 use Rattle.laws.specs.Lengths.{sum, sizes, size_at, planned_size}
 use Rattle.laws.specs.Usable.{unusable}
-use Rattle.rows.specs.declared.Columns.{Columns}
-use Rattle.readers.specs.declared.subtable.Subtable.{Subtable}
-use Rattle.readers.specs.Opened.{Whole}
+use Rattle.rows.specs.declared.Counts.{Counts}
+use Rattle.readers.specs.declared.subtable.Shape.{Shape}
+use Rattle.readers.specs.Opening.{Whole}
 use Rattle.rows.specs.Area.{part, items, used_in, used_of, column_in}
 use Rattle.rows.specs.Length.{planned_length}
 use Rattle.rows.specs.Planned.{Planned}
@@ -45,7 +45,7 @@ unfolding unusable
 ready_usable {s} {run} r = neither (absent_subtable s run.outer) (bad_subtable s (subtable_at s run.outer)) r.usable
 
 -- the columns that w' holds name regions that are there and marked
-pub ready_named : {s : List ℕ} {run : Run} {w w' : List ℕ} {p : Columns} → RunReady s run w → take 12288 w' ≡ take 12288 w
+pub ready_named : {s : List ℕ} {run : Run} {w w' : List ℕ} {p : Counts} → RunReady s run w → take 12288 w' ≡ take 12288 w
     → Planned s (subtable_at s run.outer) run.inners w' p → Named s (subtable_at s run.outer) w' p
 unfolding names_none uses_region
 ready_named {s} {run} {w} {w'} {p} r e q =
@@ -60,7 +60,7 @@ ready_named {s} {run} {w} {w'} {p} r e q =
     }
 
 -- t is the run's subtable, and its columns p are planned in w₁
-module _ {s w₁ : List ℕ} {t : Subtable} {p : Columns} (w : List ℕ) (from to : ℕ) (e : take 12288 w₁ ≡ take 12288 w) (h : from ≤ to) (k : to ≤ 8192)
+module _ {s w₁ : List ℕ} {t : Shape} {p : Counts} (w : List ℕ) (from to : ℕ) (e : take 12288 w₁ ≡ take 12288 w) (h : from ≤ to) (k : to ≤ 8192)
     (u : Whole s (subtable_at s (outer (get_or w from 0))) t) (q : Planned s t.at (items (part w from to)) w₁ p) where
   same-items : items (part w₁ from to) ≡ items (part w from to)
   same-items = ap (λ (ps : List ℕ). items ps) (part_same w₁ w 12288 e from (to - from) (omega arith))

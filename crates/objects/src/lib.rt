@@ -1,28 +1,26 @@
 // The objects of a planned store, each written into its part of the output.
 #![tactic(auto)]
 
-ghost use Rattle.std.specs.Prelude.{◌≡◌, false, ◌++◌, ◌+◌, ◌*◌, ◌^◌, ◌≤◌, ◌<◌, length, get_or, take, drop};
+ghost use Rattle.std.specs.Prelude.{◌≡◌, ◌++◌, ◌+◌, ◌*◌, ◌^◌, ◌≤◌, ◌<◌, length, get_or, take, drop};
 ghost use Rattle.lists.specs.Pick.{pick};
 ghost use Rattle.lists.specs.Gather.{flat, rank};
 ghost use Rattle.cells.specs.Be.{be_bytes};
 ghost use Rattle.bits.specs.Bits.{has};
-ghost use Rattle.opentype.specs.Store.{subtable_at, region_count, record_length, region_record, axis_count};
+ghost use Rattle.opentype.specs.Store.{subtable_at, region_count, record_length, region_record};
 ghost use Rattle.rules.specs.Lists.{runs, outer};
-ghost use Rattle.rules.specs.Open.{bad_store, bad_regions, absent_subtable, bad_subtable};
 ghost use Rattle.rules.specs.Regions.{used_regions, region_list_bytes};
 ghost use Rattle.rules.specs.Rewrite.{subtable_bytes};
 ghost use Rattle.laws.specs.Lengths.{sum, size_at, sizes};
-ghost use Rattle.readers.specs.Opened.{Whole};
 ghost use Rattle.rows.specs.Area.{part, items, used_in, used_of};
 ghost use Rattle.plan.specs.Layout.{Passed};
 ghost use Rattle.objects.specs.Offsets.{offsets_by};
 ghost use Rattle.objects.specs.Runs.{run_in, RunReady};
 
-use cells::{put_u16, put_u32, u32_at};
-use copies::copy;
-use plan::{Layout, list_length, regions_at};
-use readers::subtable::{Subtable, subtable_of};
+use cells::{put_u16, put_u32};
+use plan::{Layout, list_length};
+use readers::store::{Regions, Store};
 use rows::plan_columns;
+use rules::WorkArea;
 use subtables::put_subtable;
 
 // The 8 bytes of a header: format 1, the place of the region list, how many subtables.
@@ -37,8 +35,8 @@ pub fn put_header(out: &mut [u8], list: usize, count: usize)
 }
 
 // The offsets of the subtables, by the lengths in the work area.
-pub fn put_offsets(out: &mut [u8], work: &[u32], count: usize, first: usize)
-    requires work_len { (length work.now ≡ 16384) × (count ≤ 256) × (length out.old ≡ 4 * count) }
+pub fn put_offsets(out: &mut [u8], work: &WorkArea, count: usize, first: usize)
+    requires out_len { (count ≤ 256) × (length out.old ≡ 4 * count) }
     requires work_bound { first + sum (take count (drop 8832 work.now)) < 2 ^ 32 }
     ensures { out.new ≡ offsets_by first (take count (drop 8832 work.now)) }
 {
@@ -50,8 +48,8 @@ pub fn put_offsets(out: &mut [u8], work: &[u32], count: usize, first: usize)
 }
 
 // How many bytes region r has in the written list.
-fn used_length(work: &[u32], r: usize, size: usize) -> usize
-    requires { (length work.now ≡ 16384) × (r < 4096) }
+fn used_length(work: &WorkArea, r: usize, size: usize) -> usize
+    requires { r < 4096 }
     ensures { result ≡ pick (has (used_in work.now) r) size 0 }
 {
     if bits::contains(&work[8704..8832], r) {
@@ -62,68 +60,58 @@ fn used_length(work: &[u32], r: usize, size: usize) -> usize
 }
 
 // The records of the used regions, in ascending order.
-fn put_records(out: &mut [u8], work: &[u32], s: &[u8], size: usize, regions: usize)
-    requires work_len { (length work.now ≡ 16384) × (bad_store s.now ≡ false) × (bad_regions s.now ≡ false) }
-    requires size_value { (size ≡ record_length s.now) × (regions ≡ region_count s.now) }
-    requires out_len { length out.old ≡ rank (has (used_in work.now)) (region_count s.now) * record_length s.now }
-    ensures { out.new ≡ flat (λ r. region_record s.now r) (used_of s.now work.now) }
+fn put_records(out: &mut [u8], work: &WorkArea, regions: &Regions<'_>)
+    requires { length out.old ≡ rank (has (used_in work.now)) (region_count regions.now.store.bytes.now) * record_length regions.now.store.bytes.now }
+    ensures { out.new ≡ flat (λ r. region_record regions.now.store.bytes.now r) (used_of regions.now.store.bytes.now work.now) }
 {
-    let mut from = regions_at(s) + 4;
+    let s = regions.store.bytes;
+    let size = 6 * regions.axes;
+    let mut from = regions.at + 4;
     let mut next = 0;
-    for r in 0..regions {
+    for r in 0..regions.count {
         let length = used_length(work, r, size);
         let end = next + length;
         let stop = from + length;
-        copy(&mut out[next..end], &s[from..stop]);
+        out[next..end].copy_from_slice(&s[from..stop]);
         next = end;
         from += size;
     }
 }
 
 // The written region list: axes, how many regions, their records.
-pub fn put_region_list(out: &mut [u8], work: &[u32], s: &[u8], l: Layout)
-    requires work_len { (length work.now ≡ 16384) × (bad_store s.now ≡ false) × (bad_regions s.now ≡ false) }
-    requires axes_value { (l.axes ≡ axis_count s.now) × (l.regions ≡ region_count s.now) × (l.axes ≤ 65535) }
-    requires used_value { (l.used ≡ rank (has (used_in work.now)) (region_count s.now)) × (l.used ≤ 4096) }
-    requires out_len { length out.old ≡ 4 + l.used * (6 * l.axes) }
-    ensures { out.new ≡ region_list_bytes s.now (used_of s.now work.now) }
+pub fn put_region_list(out: &mut [u8], work: &WorkArea, l: &Layout<'_>)
+    requires used_value { (l.now.used ≡ rank (has (used_in work.now)) (region_count l.now.regions.store.bytes.now)) × (l.now.used ≤ 4096) }
+    requires out_len { length out.old ≡ 4 + l.now.used * (6 * l.now.regions.axes) }
+    ensures { out.new ≡ region_list_bytes l.now.regions.store.bytes.now (used_of l.now.regions.store.bytes.now work.now) }
 {
-    let end = list_length(l.used, l.axes);
-    put_u16(out, 0, l.axes as u32);
+    let axes = l.regions.axes;
+    let end = list_length(l.used, axes);
+    put_u16(out, 0, axes as u32);
     put_u16(out, 2, l.used as u32);
-    put_records(&mut out[4..end], work, s, 6 * l.axes, l.regions);
-}
-
-// The subtable of an outer that 5 and 6 let through.
-fn subtable_named(s: &[u8], outer: usize) -> Subtable
-    requires s_value { bad_store s.now ≡ false }
-    requires outer_value { (absent_subtable s.now outer ≡ false) × (bad_subtable s.now (subtable_at s.now outer) ≡ false) }
-    ensures { Whole s.now (subtable_at s.now outer) result }
-{
-    subtable_of(s, u32_at(s, 8 + 4 * outer) as usize)
+    put_records(&mut out[4..end], work, &l.regions);
 }
 
 // The subtable of the pairs from..to, into its part of the output. Its columns are planned anew.
-fn put_run(out: &mut [u8], work: &mut [u32], s: &[u8], from: usize, to: usize)
-    requires work_len { (length work.old ≡ 16384) × (from < to) × (to ≤ 8192) }
-    requires s_value { bad_store s.now ≡ false }
-    requires run_ready { RunReady s.now (run_in work.old from to) work.old }
-    requires out_len { length out.old ≡ size_at s.now (subtable_at s.now (outer (get_or work.old from 0))) (items (part work.old from to)) }
-    ensures out_after { out.new ≡ subtable_bytes s.now (used_of s.now work.old) (run_in work.old from to) }
+fn put_run(out: &mut [u8], work: &mut WorkArea, s: &Store<'_>, from: usize, to: usize)
+    requires from_lt_to { (from < to) × (to ≤ 8192) }
+    requires run_ready { RunReady s.now.bytes.now (run_in work.old from to) work.old }
+    requires out_len { length out.old ≡ size_at s.now.bytes.now (subtable_at s.now.bytes.now (outer (get_or work.old from 0))) (items (part work.old from to)) }
+    ensures out_after { out.new ≡ subtable_bytes s.now.bytes.now (used_of s.now.bytes.now work.old) (run_in work.old from to) }
+    ensures work_len { length work.new ≡ 16384 }
     ensures work_unchanged { take 12288 work.new ≡ take 12288 work.old }
 {
-    let t = subtable_named(s, (work[from] / 65536) as usize);
-    let p = plan_columns(work, s, t, from, to);
-    put_subtable(out, work, s, t, p, from, to);
+    let t = s.subtable_again((work[from] / 65536) as usize);
+    let p = plan_columns(work, &t, from, to);
+    put_subtable(out, work, &t, p, from, to);
 }
 
 // The subtables of the first n pairs, each into its part, whose length the work area holds.
-pub fn put_subtables(out: &mut [u8], work: &mut [u32], s: &[u8], n: usize)
-    requires passed { Passed s.now (take n work.old) work.old }
-    requires work_len_bound { length (runs (take n work.old)) ≤ 256 }
-    requires work_value { take (length (runs (take n work.old))) (drop 8832 work.old) ≡ sizes s.now (runs (take n work.old)) }
-    requires out_len { length out.old ≡ sum (sizes s.now (runs (take n work.old))) }
-    ensures { out.new ≡ flat (λ run. subtable_bytes s.now (used_regions s.now (runs (take n work.old))) run)
+pub fn put_subtables(out: &mut [u8], work: &mut WorkArea, s: &Store<'_>, n: usize)
+    requires passed { Passed s.now.bytes.now (take n work.old) work.old }
+    requires runs_bound { length (runs (take n work.old)) ≤ 256 }
+    requires work_value { take (length (runs (take n work.old))) (drop 8832 work.old) ≡ sizes s.now.bytes.now (runs (take n work.old)) }
+    requires out_len { length out.old ≡ sum (sizes s.now.bytes.now (runs (take n work.old))) }
+    ensures { out.new ≡ flat (λ run. subtable_bytes s.now.bytes.now (used_regions s.now.bytes.now (runs (take n work.old))) run)
         (runs (take n work.old)) }
 {
     let mut next = 0;

@@ -14,10 +14,10 @@ use Rattle.opentype.specs.Subtable.{long, word_count, column_count, word_size, r
 use Rattle.rules.specs.declared.Class.TheVariants.{Dropped, Narrow, Wide}
 use Rattle.rules.specs.Columns.{Plan, is_wide, class_of, kept_deltas, keeps_long, plan_of, plan_with}
 use Rattle.laws.specs.Sizes.{class_by_size, column_size, class_column}
-use Rattle.readers.specs.declared.subtable.Subtable.{Subtable}
+use Rattle.readers.specs.declared.subtable.Shape.{Shape}
 use Rattle.readers.specs.Opened.{Opened}
 use Rattle.columns.proofs.Caps.{column_capped}
-use Rattle.rows.specs.declared.Columns.{Columns}
+use Rattle.rows.specs.declared.Counts.{Counts}
 use Rattle.rows.specs.Area.{column_in}
 use Rattle.rows.specs.Planned.{Planned}
 use Rattle.subtables.specs.Kept.{Fitted}
@@ -60,7 +60,7 @@ module _ (s : List ℕ) (at : ℕ) (is : List ℕ) where
       by false a true = omega arith
       by false a false = omega arith
 
-pub planned_fitted : {s : List ℕ} {t : Subtable} {is w : List ℕ} {p : Columns} → Opened s t → Planned s t.at is w p → Fitted t w p
+pub planned_fitted : {s : List ℕ} {t : Shape} {is w : List ℕ} {p : Counts} → Opened s t → Planned s t.at is w p → Fitted t w p
 unfolding plan_in columns_from
 planned_fitted {s} {t} {is} {w} {p} o h = record {
   wide = record {

@@ -15,7 +15,7 @@ use Rattle.cells.proofs.Cells.{be_cat, be_lt}
 use Rattle.cells.proofs.Twos.{sign_low, sign_high}
 use Rattle.opentype.specs.Subtable.{word_size, rest_size, cell_at, cell_size, delta}
 use Rattle.laws.specs.Rows.{cell_has_size}
-use Rattle.readers.specs.declared.subtable.Subtable.{Subtable}
+use Rattle.readers.specs.declared.subtable.Shape.{Shape}
 use Rattle.readers.specs.Opened.{Opened}
 use Rattle.readers.proofs.Subtables.{delta_there, delta_no_item, cell_ends}
 
@@ -45,12 +45,19 @@ cell_bytes a b (suc (suc (suc zero))) u z e l = absurd (z.even refl)
 cell_bytes a b (suc (suc (suc (suc zero)))) u z e l = sign_bytes 0 2147483648 (256 ^ a) b u refl (ap (λ (n : ℕ). 256 ^ n) e ∙ pow-add 256 a b) l
 cell_bytes a b (suc (suc (suc (suc (suc w))))) u z e l = absurd (omega arith)
 
-last_bytes : (w b : ℕ) (s : List ℕ) (at : ℕ) → Size w → b ≤ w → ((i : ℕ) → get_or s i 0 < 256) → signed_bytes b (signed_at w s at) ≡ be_bytes b (be b s (at + (w - b)))
+pub last_bytes : (w b : ℕ) (s : List ℕ) (at : ℕ) → Size w → b ≤ w → ((i : ℕ) → get_or s i 0 < 256) → signed_bytes b (signed_at w s at) ≡ be_bytes b (be b s (at + (w - b)))
 last_bytes w b s at z h t =
     let e : w ≡ (w - b) + b = omega arith in
     cell_bytes (w - b) b w (be w s at) z e (be_lt w s at t)
     ∙ ap (λ (n : ℕ). be_bytes b (be n s at)) e
     ∙ rw (be_cat (w - b) b s at) (low_bytes b (be (w - b) s at) (be b s (at + (w - b))))
+
+-- the last bytes before a place are the low bytes of a cell that ends there
+pub low_last : (s : List ℕ) {r size end : ℕ} (w : ℕ) → Size w → size ≤ w → w ≤ end → ((i : ℕ) → get_or s i 0 < 256) → r ≡ be size s (end - size)
+    → be_bytes size r ≡ signed_bytes size (signed_at w s (end - w))
+low_last s {r} {size} {end} w z h l b e =
+    let p : end - size ≡ end - w + (w - size) = omega arith in
+    rw (e, p) (sym (last_bytes w size s (end - w) z h b))
 
 -- a column's cell ends where the next one starts
 pub cell_next : (is_long : Bool) (words c : ℕ) → cell_at is_long words (c + 1) ≡ cell_at is_long words c + cell_size is_long words c
@@ -75,7 +82,7 @@ cell_next is_long words c = elim (dec_lt (c + 1) words) [
     rest true h = omega arith
     rest false h = omega arith
 
-module _ {s : List ℕ} {t : Subtable} (o : Opened s t) (item column size : ℕ) where
+module _ {s : List ℕ} {t : Shape} (o : Opened s t) (item column size : ℕ) where
   -- an item that is not there has zeros
   pub low_no_item : t.items ≤ item → be_bytes size 0 ≡ signed_bytes size (delta s t.at item column)
   low_no_item h = rw (← delta_no_item o item column h)
@@ -84,10 +91,12 @@ module _ {s : List ℕ} {t : Subtable} (o : Opened s t) (item column size : ℕ)
   pub low_ends : item < t.items → column < t.columns → t.rows + item * t.row + cell_at t.long t.words (column + 1) ≤ length s
   low_ends h k = omega (arith, cell_next t.long t.words column, cell_ends o item column h k)
 
-  pub low_there : {r : ℕ} → item < t.items → column < t.columns → size ≤ cell_size t.long t.words column → ((i : ℕ) → get_or s i 0 < 256)
-      → r ≡ be size s (t.rows + item * t.row + cell_at t.long t.words (column + 1) - size) → be_bytes size r ≡ signed_bytes size (delta s t.at item column)
-  low_there {r} h k l b e =
+  pub low_there : (r : ℕ) → item < t.items → column < t.columns → size ≤ cell_size t.long t.words column
+      → let end = t.rows + item * t.row + cell_at t.long t.words (column + 1) in
+      ((w : ℕ) → Size w → size ≤ w → w ≤ end → be_bytes size r ≡ signed_bytes size (signed_at w s (end - w))) → be_bytes size r ≡ signed_bytes size (delta s t.at item column)
+  low_there r h k l f =
       let w = cell_size t.long t.words column in
       let at = t.rows + item * t.row + cell_at t.long t.words column in
-      let p : t.rows + item * t.row + cell_at t.long t.words (column + 1) - size ≡ at + (w - size) = omega (arith, cell_next t.long t.words column) in
-      rw (← delta_there o item column h k refl, e, p) (sym (last_bytes w size s at (cell_has_size t.long t.words column) l b))
+      let n = cell_next t.long t.words column in
+      let p : t.rows + item * t.row + cell_at t.long t.words (column + 1) - w ≡ at = omega (arith, n) in
+      rw (← delta_there o item column h k refl) (rw p at (f w (cell_has_size t.long t.words column) l (omega (arith, n))))

@@ -1,17 +1,14 @@
 -- Laws of the writers, each for its part of the output: cells, a row, rows, region indexes, the header.
-use Prim.Native.Nat.{ℕ, ◌+◌, ◌*◌, ◌-◌, ◌≤◌, ◌<◌}
-use mathlib.Core.Path.{◌≡◌, refl, ap, ◌∙◌}
+use Prim.Native.Nat.{ℕ, ◌+◌, ◌*◌, ◌≤◌, ◌<◌}
+use mathlib.Core.Path.{◌≡◌, ap, ◌∙◌}
 use mathlib.Core.Bool.{true}
-use mathlib.Core.List.{List, [], ◌++◌}
-use native.Mathlib.Nat.{add-sub_cancel_left}
+use mathlib.Core.List.{List, ◌++◌}
 use native.Mathlib.Omega.{arith}
-use lib.ListN.{length, get_or, drop, length-append, length-take}
-use lib.Seq.{get_or-take, get_or-drop}
-use borrow.Rule.Slice.PartMut.{put_mid, mid_len}
+use lib.ListN.{length, get_or, length-append}
 use mir.Val.{of_z}
 use mir.Syntax.{w32}
 use Rattle.lists.specs.Gather.{tab, flat, gather, rank}
-use Rattle.lists.proofs.Parts.{sets_all, put_next, all_laid}
+use Rattle.lists.proofs.Parts.{sets_all}
 use Rattle.lists.proofs.Pieces.{length-tab, gather-length}
 use Rattle.lists.proofs.Tabs.{gather-tab}
 use Rattle.lists.proofs.Fronts.{Fronted, fronted_inside, fronted_all}
@@ -28,11 +25,12 @@ use Rattle.rules.specs.Lists.{inner}
 use Rattle.rules.specs.Regions.{new_region}
 use Rattle.rules.specs.Rewrite.{row_bytes}
 use Rattle.laws.specs.Lengths.{length_cells as lengths}
-use Rattle.rows.specs.declared.Columns.{Columns}
-use Rattle.rows.specs.Area.{part, column_in, columns_in, used_in, used_of}
+use Rattle.rows.specs.declared.Counts.{Counts}
+use Rattle.rows.specs.Area.{items, column_in, columns_in, used_in, used_of}
 use Rattle.subtables.specs.Kept.{Named}
 use Rattle.rows.specs.Length.{row_of}
-use Rattle.subtables.specs.Written.{columns_from, items_in, plan_in, cells_of, indexes_of}
+use Rattle.subtables.specs.Written.{columns_from, plan_in, cells_of, indexes_of}
+use Rattle.subtables.proofs.Plans.{items_tab}
 
 -- ---- the header: three cells of 2 bytes
 
@@ -79,7 +77,7 @@ module _ (s : List ℕ) (at item size : ℕ) (w : List ℕ) (wide first : ℕ) w
 
 -- ---- a row: the wide part, then the narrow part
 
-module _ (s : List ℕ) (at item : ℕ) (w : List ℕ) (p : Columns) where
+module _ (s : List ℕ) (at item : ℕ) (w : List ℕ) (p : Counts) where
   pub length-row : length (row_bytes s at (plan_in w p) item) ≡ row_of p
   unfolding row_bytes plan_in
   length-row =
@@ -89,64 +87,45 @@ module _ (s : List ℕ) (at item : ℕ) (w : List ℕ) (p : Columns) where
         length_cells s at item (rest_size p.long) w p.wide p.wide p.narrow,
       )
 
-  pub row_laid : (old : List ℕ) {word rest : ℕ} {a b : List ℕ} → word ≡ word_size p.long → rest ≡ rest_size p.long → length old ≡ row_of p
+  -- the two groups, one behind the other
+  pub row_laid : {word rest : ℕ} {a b : List ℕ} → word ≡ word_size p.long → rest ≡ rest_size p.long
       → a ≡ cells_of s at item word (columns_from w p.wide 0 p.wide) → b ≡ cells_of s at item rest (columns_from w p.wide p.wide p.narrow)
-      → let mid = p.wide * word in let end = mid + p.narrow * rest in
-      put_mid mid (end - mid) (put_mid 0 (mid - 0) old a) b ≡ row_bytes s at (plan_in w p) item
+      → a ++ b ≡ row_bytes s at (plan_in w p) item
   unfolding row_bytes plan_in
-  row_laid old {word} {rest} d e h q r =
-      let mid = p.wide * word in
-      let end = mid + p.narrow * rest in
-      let wides = cells_of s at item word (columns_from w p.wide 0 p.wide) in
-      let narrows = cells_of s at item rest (columns_from w p.wide p.wide p.narrow) in
-      let l : length wides ≡ mid = length_cells s at item word w p.wide 0 p.wide in
-      let whole : length old ≤ end = rw (d, e) (omega arith) in
-      let p₁ = put_next old [] wides 0 mid refl refl (omega arith) q refl in
-      let p₂ = put_next old wides (wides ++ narrows) mid end p₁ l (omega arith) r refl in
-      p₂ ∙ all_laid (wides ++ narrows) old end whole ∙ rw (d, e)
+  row_laid d e q r = rw (q, r, d, e)
 
 -- ---- the rows of the kept items
 
-module _ (s : List ℕ) (at : ℕ) (w : List ℕ) (p : Columns) (from : ℕ) where
+module _ (s : List ℕ) (at : ℕ) (w : List ℕ) (p : Counts) (ps : List ℕ) where
   abbrev pub row_in : ℕ → List ℕ
-  row_in k = row_bytes s at (plan_in w p) (inner (get_or w (from + k) 0))
+  row_in k = row_bytes s at (plan_in w p) (inner (get_or ps k 0))
 
   abbrev row : ℕ → List ℕ
   row i = row_bytes s at (plan_in w p) i
 
   abbrev item : ℕ → ℕ
-  item k = inner (get_or w (from + k) 0)
-
-  -- the pairs that the items are of
-  pub pairs_length : (n : ℕ) → from + n ≤ length w → length (part w from (from + n)) ≡ n
-  pairs_length n h = mid_len from (from + n) w h ∙ add-sub_cancel_left from n
-
-  pub row_at : (n k : ℕ) → k < length (part w from (from + n)) → row_bytes s at (plan_in w p) (inner (get_or (part w from (from + n)) k 0)) ≡ row_in k
-  row_at n k h = let l : k < from + n - from = omega (arith, length-take (from + n - from) (drop from w)) in
-      rw (get_or-take (from + n - from) (drop from w) k 0 l, get_or-drop from w k 0)
+  item k = inner (get_or ps k 0)
 
   length_item : (i : ℕ) → length (row i) ≡ row_of p
   length_item i = length-row s at i w p
 
-  pub rows_room : {old out : List ℕ} {k pos : ℕ} (n : ℕ) → Laid row_in old k pos out → k < n → length old ≡ n * row_of p → pos + row_of p ≤ length old
-  rows_room n = even_room row (row_of p) length_item item n
+  pub rows_room : {old out : List ℕ} {k pos : ℕ} → Laid row_in old k pos out → k < length ps → length old ≡ length ps * row_of p → pos + row_of p ≤ length old
+  rows_room = even_room row (row_of p) length_item item (length ps)
 
-  pub rows_all : {old out : List ℕ} {k pos : ℕ} (n : ℕ) → Laid row_in old k pos out → k ≡ n → length old ≡ n * row_of p
-      → out ≡ flat (λ i. row_bytes s at (plan_in w p) i) (items_in w from n)
-  unfolding items_in
-  rows_all n = even_all row (row_of p) length_item item n
+  pub rows_all : {old out : List ℕ} {k pos : ℕ} → Laid row_in old k pos out → k ≡ length ps → length old ≡ length ps * row_of p
+      → out ≡ flat (λ i. row_bytes s at (plan_in w p) i) (items ps)
+  rows_all l e h = even_all row (row_of p) length_item item (length ps) l e h ∙ ap (flat row) (items_tab ps)
 
   -- the same, where a turn may spoil what lies behind its row
   rows_length : (n : ℕ) → length (gather row_in n) ≡ n * row_of p
   rows_length = gather-length row_in (row_of p) (λ k. length_item (item k))
 
-  pub front_room : {old out : List ℕ} {k pos : ℕ} (n : ℕ) → Fronted row_in old k pos out → k < n → length old ≡ n * row_of p → pos + row_of p ≤ length old
-  front_room {k = k} n l h e = omega (arith, rows_length n, length_item (item k), fronted_inside n l h (omega (arith, rows_length n)))
+  pub front_room : {old out : List ℕ} {k pos : ℕ} → Fronted row_in old k pos out → k < length ps → length old ≡ length ps * row_of p → pos + row_of p ≤ length old
+  front_room {k = k} l h e = omega (arith, rows_length (length ps), length_item (item k), fronted_inside (length ps) l h (omega (arith, rows_length (length ps))))
 
-  pub front_all : {old out : List ℕ} {k pos : ℕ} (n : ℕ) → Fronted row_in old k pos out → k ≡ n → length old ≡ n * row_of p
-      → out ≡ flat (λ i. row_bytes s at (plan_in w p) i) (items_in w from n)
-  unfolding items_in
-  front_all n l e h = fronted_all n l e (omega (arith, rows_length n)) ∙ gather-tab row item n
+  pub front_all : {old out : List ℕ} {k pos : ℕ} → Fronted row_in old k pos out → k ≡ length ps → length old ≡ length ps * row_of p
+      → out ≡ flat (λ i. row_bytes s at (plan_in w p) i) (items ps)
+  front_all l e h = fronted_all (length ps) l e (omega (arith, rows_length (length ps))) ∙ gather-tab row item (length ps) ∙ ap (flat row) (items_tab ps)
 
 -- ---- the new region indexes of the kept columns
 
@@ -163,8 +142,8 @@ module _ (s : List ℕ) (at : ℕ) (w : List ℕ) (wide : ℕ) where
   length_index : (c : ℕ) → length (index c) ≡ 2
   length_index c = length-be_bytes 2 (new_region (used_of s w) (region_index s at c))
 
-  pub indexes_room : {old out : List ℕ} {j pos : ℕ} (n : ℕ) → Laid index_in old j pos out → j < n → length old ≡ n * 2 → pos + 2 ≤ length old
-  indexes_room n = even_room index 2 length_index place n
+  pub indexes_room : {old out : List ℕ} {j pos : ℕ} (n : ℕ) → Laid index_in old j pos out → j < n → length old ≡ 2 * n → pos + 2 ≤ length old
+  indexes_room n l h e = even_room index 2 length_index place n l h (omega arith)
 
   -- the next column, c, names region r, of which v used ones are below
   pub indexes_more : {old out out' : List ℕ} {j c r : ℕ} (v : ℕ) → Laid index_in old j (2 * j) out → 2 * j + 2 ≤ length old
@@ -176,12 +155,12 @@ module _ (s : List ℕ) (at : ℕ) (w : List ℕ) (wide : ℕ) where
       let next : 2 * (j + 1) ≡ 2 * j + 2 = omega arith in
       rw next (even_more index 2 length_index place l h (p.is ∙ rw (e, ← q, place-select (has (used_in w)) r (region_count s) a b)))
 
-  pub indexes_all : {old out : List ℕ} {j pos : ℕ} (narrow : ℕ) → Laid index_in old j pos out → j ≡ wide + narrow → length old ≡ (wide + narrow) * 2
+  pub indexes_all : {old out : List ℕ} {j pos : ℕ} (narrow : ℕ) → Laid index_in old j pos out → j ≡ wide + narrow → length old ≡ 2 * (wide + narrow)
       → out ≡ indexes_of s at (used_of s w) (columns_in w wide narrow)
   unfolding columns_in
-  indexes_all narrow = even_all index 2 length_index place (wide + narrow)
+  indexes_all narrow l e h = even_all index 2 length_index place (wide + narrow) l e (omega arith)
 
 -- a kept column, c, names a region that is there and marked
-pub names : {s : List ℕ} {at : ℕ} {w : List ℕ} {p : Columns} {j c r : ℕ} → Named s at w p → j < p.wide + p.narrow → c ≡ column_in w p.wide j
+pub names : {s : List ℕ} {at : ℕ} {w : List ℕ} {p : Counts} {j c r : ℕ} → Named s at w p → j < p.wide + p.narrow → c ≡ column_in w p.wide j
     → r ≡ region_index s at c → (r < region_count s) × (has (used_in w) r ≡ true)
 names {j = j} n h e f = rw (f, e) (n.there j h, n.marked j h)

@@ -11,94 +11,100 @@ ghost use Rattle.lists.specs.Gather.{flat};
 ghost use Rattle.cells.specs.Be.{be_bytes};
 ghost use Rattle.opentype.specs.Store.{region_count};
 ghost use Rattle.rules.specs.Columns.{plan_of};
-ghost use Rattle.rules.specs.Rewrite.{row_bytes, planned_bytes};
-ghost use Rattle.readers.specs.Opened.{Opened};
+ghost use Rattle.rules.specs.Rewrite.{planned_bytes};
 ghost use Rattle.rows.specs.Area.{part, items, columns_in, used_of};
 ghost use Rattle.rows.specs.Planned.{Planned, Inside};
 ghost use Rattle.rows.specs.Length.{row_of, planned_length};
 ghost use Rattle.subtables.specs.Kept.{Named, Fitted};
-ghost use Rattle.subtables.specs.Written.{items_in, plan_in, indexes_of};
+ghost use Rattle.subtables.specs.Written.{indexes_of};
 
-use readers::subtable::{Subtable, region_index};
-use rows::{Columns, column_at, row_length};
-use whole::is_whole;
+use readers::subtable::Subtable;
+use rows::{Columns, column_at};
+use rules::WorkArea;
 
-fn put_rows(
-    out: &mut [u8],
-    work: &[u32],
-    s: &[u8],
-    t: Subtable,
-    p: Columns,
-    from: usize,
-    items: usize,
-)
-    requires work_len { (length work.now ≡ 16384) × (p.wide + p.narrow ≤ 4096) × (from + items ≤ 8192) }
-    requires opened { Opened s.now t }
-    requires fitted { Fitted t work.now p }
-    requires out_len { length out.old ≡ items * row_of p }
-    ensures { out.new ≡ flat (λ i. row_bytes s.now t.at (plan_in work.now p) i) (items_in work.now from items) }
-{
-    if is_whole(work, t, p) {
-        whole::put_items(out, work, s, t, p, from, items);
-    } else {
-        by_cell::put_items(out, work, s, t, p, from, items);
-    }
-}
-
-// Writes the new index of the region that each kept column names: how many used regions are below it.
-fn put_regions(out: &mut [u8], work: &[u32], s: &[u8], t: Subtable, p: Columns)
-    requires work_len { (length work.now ≡ 16384) × (p.wide + p.narrow ≤ 4096) }
-    requires opened { Opened s.now t }
-    requires inside { Inside s.now t.at work.now p }
-    requires named { Named s.now t.at work.now p × (region_count s.now ≤ 4096) }
-    requires out_len { length out.old ≡ (p.wide + p.narrow) * 2 }
-    ensures { out.new ≡ indexes_of s.now t.at (used_of s.now work.now) (columns_in work.now p.wide p.narrow) }
-{
-    for j in 0..p.wide + p.narrow {
-        let r = region_index(s, t, column_at(work, p.wide, j)) as usize;
-        let new = bits::rank_below(&work[8704..8832], r);
-        cells::put_u16(out, 2 * j, new as u32);
-    }
+// What is kept of a subtable: its columns, which stand in the work area. No new cell is larger than the old one.
+#[derive(Clone, Copy)]
+pub struct Kept<'a> {
+    pub subtable: Subtable<'a>,
+    pub work: &'a WorkArea,
+    pub columns: Columns,
+    pub ghost fitted: { Fitted subtable.shape work.now columns.counts },
 }
 
 fn word_field(p: Columns) -> u32
-    requires { p.wide ≤ 4096 }
-    ensures { result ≡ pick p.long 0x8000 0 + p.wide }
+    ensures { result ≡ pick p.counts.long 0x8000 0 + p.counts.wide }
 {
-    let wide = p.wide as u32;
-    if p.long { 0x8000 + wide } else { wide }
+    let wide = p.counts.wide as u32;
+    if p.counts.long { 0x8000 + wide } else { wide }
 }
 
 fn put_header(out: &mut [u8], p: Columns, items: usize)
-    requires { (length out.old ≡ 6) × (p.wide + p.narrow ≤ 4096) × (items ≤ 8192) }
-    ensures { out.new ≡ be_bytes 2 items ++ be_bytes 2 (pick p.long 0x8000 0 + p.wide) ++ be_bytes 2 (p.wide + p.narrow) }
+    requires { (length out.old ≡ 6) × (items ≤ 8192) }
+    ensures { out.new ≡ be_bytes 2 items ++ be_bytes 2 (pick p.counts.long 0x8000 0 + p.counts.wide) ++ be_bytes 2 (p.counts.wide + p.counts.narrow) }
 {
     cells::put_u16(out, 0, items as u32);
     cells::put_u16(out, 2, word_field(p));
-    cells::put_u16(out, 4, (p.wide + p.narrow) as u32);
+    cells::put_u16(out, 4, (p.counts.wide + p.counts.narrow) as u32);
+}
+
+impl<'a> Kept<'a> {
+    ghost use Rattle.subtables.specs.Rows.{new_row};
+
+    // Writes the new index of the region that each kept column names: how many used regions are below it.
+    fn put_regions(&self, out: &mut [u8])
+        requires inside { Inside self.now.subtable.bytes.now self.now.subtable.shape.at self.now.work.now self.now.columns.counts }
+        requires named { Named self.now.subtable.bytes.now self.now.subtable.shape.at self.now.work.now self.now.columns.counts }
+        requires few { region_count self.now.subtable.bytes.now ≤ 4096 }
+        requires out_len { length out.old ≡ 2 * (self.now.columns.counts.wide + self.now.columns.counts.narrow) }
+        ensures { out.new ≡ indexes_of self.now.subtable.bytes.now self.now.subtable.shape.at
+            (used_of self.now.subtable.bytes.now self.now.work.now) (columns_in self.now.work.now self.now.columns.counts.wide self.now.columns.counts.narrow) }
+    {
+        let work = self.work;
+        let p = self.columns.counts;
+        for j in 0..p.wide + p.narrow {
+            let r = self.subtable.region_index(column_at(work, p.wide, j)) as usize;
+            let new = bits::rank_below(&work[8704..8832], r);
+            cells::put_u16(out, 2 * j, new as u32);
+        }
+    }
+
+    // Writes the rows of the pairs' items.
+    fn put_rows(&self, out: &mut [u8], pairs: &[u32])
+        requires { length out.old ≡ length pairs.now * row_of self.now.columns.counts }
+        ensures { out.new ≡ flat (λ i. new_row self.now i) (items pairs.now) }
+    {
+        if self.is_whole() {
+            self.put_whole_rows(out, pairs);
+        } else {
+            self.put_new_rows(out, pairs);
+        }
+    }
 }
 
 // Writes the subtable into its part of the output.
 pub fn put_subtable(
     out: &mut [u8],
-    work: &[u32],
-    s: &[u8],
-    t: Subtable,
+    work: &WorkArea,
+    t: &Subtable<'_>,
     p: Columns,
     from: usize,
     to: usize,
 )
-    requires work_len { (length work.now ≡ 16384) × (from ≤ to) × (to ≤ 8192) }
-    requires opened { Opened s.now t }
-    requires planned { Planned s.now t.at (items (part work.now from to)) work.now p }
-    requires named { Named s.now t.at work.now p × (region_count s.now ≤ 4096) }
-    requires out_len { length out.old ≡ planned_length p.long p.wide p.narrow (to - from) }
-    ensures { out.new ≡ planned_bytes s.now t.at (used_of s.now work.now) (items (part work.now from to)) (plan_of s.now t.at (items (part work.now from to))) }
+    requires from_le_to { (from ≤ to) × (to ≤ 8192) }
+    requires planned { Planned t.now.bytes.now t.now.shape.at (items (part work.now from to)) work.now p.counts }
+    requires named { Named t.now.bytes.now t.now.shape.at work.now p.counts × (region_count t.now.bytes.now ≤ 4096) }
+    requires out_len { length out.old ≡ planned_length p.counts.long p.counts.wide p.counts.narrow (to - from) }
+    ensures { out.new ≡ planned_bytes t.now.bytes.now t.now.shape.at (used_of t.now.bytes.now work.now) (items (part work.now from to))
+        (plan_of t.now.bytes.now t.now.shape.at (items (part work.now from to))) }
 {
-    let count = to - from;
-    let rows = 6 + 2 * (p.wide + p.narrow);
-    let end = rows + count * row_length(p);
-    put_header(&mut out[0..6], p, count);
-    put_regions(&mut out[6..rows], work, s, t, p);
-    put_rows(&mut out[rows..end], work, s, t, p, from, count);
+    let kept = Kept {
+        subtable: *t,
+        work,
+        columns: p,
+    };
+    let (header, body) = out.split_at_mut(6);
+    let (indexes, rows) = body.split_at_mut(2 * (p.counts.wide + p.counts.narrow));
+    put_header(header, p, to - from);
+    kept.put_regions(indexes);
+    kept.put_rows(rows, &work[from..to]);
 }

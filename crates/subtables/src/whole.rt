@@ -1,73 +1,74 @@
 // Rows kept whole: copied from the source.
-ghost use Rattle.std.specs.Prelude.{◌+◌, ◌*◌, ◌≤◌, ◌≡◌, true, length, take};
+ghost use Rattle.std.specs.Prelude.{◌<◌, ◌*◌, ◌≤◌, ◌≡◌, true, length, take};
 ghost use Rattle.lists.specs.Gather.{flat};
-ghost use Rattle.rules.specs.Rewrite.{row_bytes};
-ghost use Rattle.readers.specs.Opened.{Opened};
-ghost use Rattle.subtables.specs.Kept.{Fitted, Own, KeptWhole};
-ghost use Rattle.subtables.specs.Written.{items_in, plan_in};
+ghost use Rattle.opentype.specs.Subtable.{row};
+ghost use Rattle.rows.specs.Area.{items};
+ghost use Rattle.subtables.specs.Kept.{Own, KeptWhole};
 
-use crate::by_cell::put_row;
+use crate::Kept;
 use copies::copy_ahead;
 use readers::subtable::Subtable;
-use rows::{Columns, column_at};
+use rows::column_at;
+use rules::WorkArea;
 
 // Whether the first columns are kept where they stand.
-fn is_own(work: &[u32], wide: usize, columns: usize) -> bool
-    requires { (length work.now ≡ 16384) × (columns ≤ 4096) }
+fn is_own(work: &WorkArea, wide: usize, columns: usize) -> bool
+    requires { columns ≤ 4096 }
     ensures { result ≡ true → Own work.now wide columns }
 {
     (0..columns).all(|j| column_at(work, wide, j) == j)
 }
 
-// Whether every column is kept where it stands, in a cell of its old size: then each written row is one of the source.
-pub fn is_whole(work: &[u32], t: Subtable, p: Columns) -> bool
-    requires { (length work.now ≡ 16384) × (p.wide + p.narrow ≤ 4096) × (t.columns ≤ 4096) }
-    ensures { result ≡ true → KeptWhole t work.now p }
+// The source from the row of an item on.
+fn source_from<'a>(t: &Subtable<'a>, item: usize) -> &'a [u8]
+    requires { item < t.now.shape.items }
+    ensures value { take t.now.shape.row result.now ≡ row t.now.bytes.now t.now.shape.at item }
+    ensures row_in_bounds { t.now.shape.row ≤ length result.now }
 {
-    p.long == t.long
-        && p.wide == t.words
-        && p.wide + p.narrow == t.columns
-        && is_own(work, p.wide, t.columns)
+    &t.bytes[t.shape.rows + item * t.shape.row..]
 }
 
-// Writes the row of an item to the front of the output. What lies behind it there is not promised: the rows to come are written over it.
-fn put_item(out: &mut [u8], work: &[u32], s: &[u8], t: Subtable, p: Columns, item: usize)
-    requires work_len { (length work.now ≡ 16384) × (p.wide + p.narrow ≤ 4096) }
-    requires opened { Opened s.now t }
-    requires fitted { Fitted t work.now p × KeptWhole t work.now p }
-    requires row_in_bounds { t.row ≤ length out.old }
-    ensures { take t.row out.new ≡ row_bytes s.now t.at (plan_in work.now p) item }
-{
-    let row = t.row;
-    if item < t.items {
-        let at = t.rows + item * row;
-        copy_ahead(out, &s[at..], row);
-    } else {
-        put_row(&mut out[0..row], work, s, t, p, item);
+impl<'a> Kept<'a> {
+    ghost use Rattle.subtables.specs.Rows.{new_row};
+
+    // Whether every column is kept where it stands, in a cell of its old size: then each written row is one of the source.
+    pub fn is_whole(&self) -> bool
+        ensures { result ≡ true → KeptWhole self.now.subtable.shape self.now.work.now self.now.columns.counts }
+    {
+        let t = self.subtable.shape;
+        let p = self.columns.counts;
+        p.long == t.long
+            && p.wide == t.words
+            && p.wide + p.narrow == t.columns
+            && is_own(self.work, p.wide, t.columns)
     }
-}
 
-// Writes the rows of the items of so many pairs, from one on.
-pub fn put_items(
-    out: &mut [u8],
-    work: &[u32],
-    s: &[u8],
-    t: Subtable,
-    p: Columns,
-    from: usize,
-    items: usize,
-)
-    requires work_len { (length work.now ≡ 16384) × (p.wide + p.narrow ≤ 4096) × (from + items ≤ 8192) }
-    requires opened { Opened s.now t }
-    requires fitted { Fitted t work.now p × KeptWhole t work.now p }
-    requires out_len { length out.old ≡ items * t.row }
-    ensures { out.new ≡ flat (λ i. row_bytes s.now t.at (plan_in work.now p) i) (items_in work.now from items) }
-{
-    let row = t.row;
-    let mut at = 0;
-    for &pair in &work[from..from + items] {
-        let item = (pair % 65536) as usize;
-        put_item(&mut out[at..], work, s, t, p, item);
-        at += row;
+    // Writes the row of an item to the front of the output. What lies behind it there is not promised: the rows to come are written over it.
+    fn put_whole_row(&self, out: &mut [u8], item: usize)
+        requires whole { KeptWhole self.now.subtable.shape self.now.work.now self.now.columns.counts }
+        requires row_in_bounds { self.now.subtable.shape.row ≤ length out.old }
+        ensures { take self.now.subtable.shape.row out.new ≡ new_row self.now item }
+    {
+        let row = self.subtable.shape.row;
+        if item < self.subtable.shape.items {
+            copy_ahead(out, source_from(&self.subtable, item), row);
+        } else {
+            self.put_row(&mut out[..row], item);
+        }
+    }
+
+    // Writes the rows of the pairs' items.
+    pub fn put_whole_rows(&self, out: &mut [u8], pairs: &[u32])
+        requires whole { KeptWhole self.now.subtable.shape self.now.work.now self.now.columns.counts }
+        requires out_len { length out.old ≡ length pairs.now * self.now.subtable.shape.row }
+        ensures { out.new ≡ flat (λ i. new_row self.now i) (items pairs.now) }
+    {
+        let row = self.subtable.shape.row;
+        let mut at = 0;
+        for pair in pairs {
+            let item = (*pair % 65536) as usize;
+            self.put_whole_row(&mut out[at..], item);
+            at += row;
+        }
     }
 }
