@@ -30,12 +30,12 @@ use Rattle.readers.specs.declared.map.Map.{Map}
 use Rattle.sources.specs.declared.named.Source.{Source}
 use Rattle.sources.specs.Pairs.{pair_at, pair_in, IsSource, Paired}
 use Rattle.sources.proofs.Pairs.{pair_is}
-use Rattle.numbering.specs.Numbered.{Numbered, Renumbered, Checked}
+use Rattle.numbering.specs.Numbered.{Numbered, Renumbered}
 use Rattle.maps.specs.Plans.{kept_in, largest_of, Kept, Ready, Bounds}
 
--- a map of a table that passed its checks, with its kept pairs collected
-pub ready : {maps count n m : ℕ} {w t es : List ℕ} → Checked maps count t es → bad_glyphs es ≡ false → take n w ≡ kept_pairs maps t es → m < maps → Ready n w t es m
-ready {maps} {n = n} {m} {w} {t} {es} c g e l = record {
+-- a map of a table whose kept pairs are collected
+pub ready : {maps n m : ℕ} {w t es : List ℕ} → bad_glyphs es ≡ false → take n w ≡ kept_pairs maps t es → m < maps → Ready n w t es m
+ready {maps} {n = n} {m} {w} {t} {es} g e l = record {
   glyphs = good_glyphs es g;
   kept = λ h k b. rw e (kept_member maps t es m k l h b);
 }

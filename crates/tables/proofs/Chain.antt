@@ -40,12 +40,12 @@ past_end t h =
     let n : length (drop (store_at t) t) < 8 = rw length-drop (omega arith) in
     rw (lt-ltb (length (drop (store_at t) t)) 8 n)
 
--- the part that is lent is the store
-pub is_store : (t : List ℕ) (at : ℕ) → at ≡ store_at t → take (length t - at) (drop at t) ≡ store_of t
+-- else what is lent is the store
+pub is_store : (t : List ℕ) (at : ℕ) {s : List ℕ} → at ≡ store_at t → s ≡ take (length t - at) (drop at t) → s ≡ store_of t
 unfolding store_of
-is_store t at e =
+is_store t at e h =
     let n : length (drop at t) ≤ length t - at = le_of_eq (length-drop at t) in
-    take_all (length t - at) (drop at t) n ∙ ap (λ (k : ℕ). drop k t) e
+    h ∙ (take_all (length t - at) (drop at t) n ∙ ap (λ (k : ℕ). drop k t) e)
 
 -- 3, 15, 12, 13, of the store s
 module _ {maps : ℕ} {t es : List ℕ} (p : Passed maps t es) (s : List ℕ) (is : s ≡ store_of t) where

@@ -1,7 +1,7 @@
 -- The table as it is laid: header, maps, and the store between them.
 use Prim.Native.Nat.{ℕ, ◌+◌, ◌-◌, ◌*◌, ◌≤◌}
 use mathlib.Core.Path.{◌≡◌, refl, ap, ◌∙◌}
-use mathlib.Core.Bool.{Bool, true, false}
+use mathlib.Core.Bool.{true, false}
 use mathlib.Core.List.{List, [], ◌∷◌, ◌++◌}
 use native.Mathlib.Omega.{arith}
 use lib.ListN.{length, take, drop, length-append, length-drop}
@@ -23,7 +23,8 @@ use Rattle.rules.specs.StoreCut.{cut_opened}
 use Rattle.rules.specs.Numbering.{kept_pairs}
 use Rattle.rules.specs.Maps.{wide_entry, map_bytes}
 use Rattle.rules.specs.TableCut.{map_offsets, lay_table, table_written, with_store, cut_kept}
-use Rattle.maps.specs.declared.MapPlan.{MapPlan}
+use Rattle.std.specs.Prelude.{Option}
+use Rattle.maps.specs.declared.plan.MapPlan.{MapPlan}
 use Rattle.frame.specs.Plans.{kept_runs, part_at, offset_at, MapsPlanned}
 use Rattle.frame.proofs.Offsets.{offsets_up_to}
 
@@ -42,11 +43,11 @@ table_length maps t store f h =
 
 -- ---- the bytes
 
-pub table_laid : {maps : ℕ} {t es : List ℕ} {plans : List MapPlan} {wide : Bool} {total : ℕ} (old store : List ℕ) (size : ℕ) {h s m : List ℕ}
-    → MapsPlanned maps t es plans wide total maps → size ≡ length store → 4 ≤ length t
+pub table_laid : {maps : ℕ} {t es : List ℕ} {plans : List (Option MapPlan)} {total : ℕ} (old store : List ℕ) (size : ℕ) {h s m : List ℕ}
+    → MapsPlanned maps t es plans total maps → size ≡ length store → 4 ≤ length t
     → h ≡ take 4 t ++ be_bytes 4 (header_length maps) ++ gather (λ k. offset_at plans (8 + 4 * maps + size) k) maps → s ≡ store → m ≡ gather (λ k. part_at maps t es k) maps
     → 8 + 4 * maps + size + total ≤ length old
-    → put_mid (8 + 4 * maps) (8 + 4 * maps + size - (8 + 4 * maps)) (put_mid (8 + 4 * maps + size) (8 + 4 * maps + size + total - (8 + 4 * maps + size)) (put_mid 0 (8 + 4 * maps - 0) old h) m) s
+    → put_mid (8 + 4 * maps) (8 + 4 * maps + size - (8 + 4 * maps)) (put_mid (8 + 4 * maps + size) (8 + 4 * maps + size + total - (8 + 4 * maps + size)) (h ++ drop (8 + 4 * maps) old) m) s
     ≡ lay_table maps t store (tab (λ k. part_at maps t es k) maps) ++ drop (8 + 4 * maps + size + total) old
 unfolding lay_table header_length
 table_laid {maps} {t} {es} {plans} {total = total} old store size {h = bytes} {s = kept} {m = laid} p n four h s m fits =
@@ -57,7 +58,7 @@ table_laid {maps} {t} {es} {plans} {total = total} old store size {h = bytes} {s
     let l : length header ≡ head = simp (length-append, length-take-le 4 t four, length-be_bytes, length-offsets, length-tab) in
     let k : length (header ++ store) ≡ head + size = rw (length-append, l) (omega arith) in
     let start = header ++ drop head old in
-    let p₁ : put_mid 0 (head - 0) old bytes ≡ start = put_next old [] header 0 head refl refl (omega arith) same refl in
+    let p₁ : bytes ++ drop head old ≡ start = rw same in
     let room : head + size ≤ length start = rw (length-append, l, length-drop) (omega arith) in
     let k₁ : length kept ≡ head + size - head = omega (arith, ap length s) in
     let p₂ = put_next old header (header ++ store) head (head + size) refl l (omega arith) s refl in

@@ -1,143 +1,69 @@
-use Prim.Native.Nat.{◌-◌}
-use mathlib.Core.Path.{refl, sym, ◌∙◌}
+use mathlib.Core.Path.{◌≡◌, refl, sym, ◌∙◌}
 use native.Mathlib.Omega.{arith}
-use lib.ListN.{length, take, drop}
-use Rattle.opentype.specs.Store.{subtable_count}
+use Rattle.std.proofs.lemmas.Result.{err_from_is_err_and}
 use Rattle.opentype.specs.Table.{store_of}
-use Rattle.laws.specs.Inside.{store_inside, header_inside}
+use Rattle.laws.specs.Inside.{header_inside}
 use Rattle.laws.specs.Fitted.{fit_refused, fit_as}
+use Rattle.tables.specs.Cut.{Passed}
 use Rattle.tables.proofs.Stores.{checked, collected}
 use Rattle.tables.proofs.Chain.{past_end, is_store, bad_store_lem, empty_store, bad_map_lem, bad_outer_lem, all_passed}
-use borrow.Author.Rules.{rules}
 use Rattle.tables.proofs.cut_at.Goals as goal
+use Rattle.tables.proofs.cut_at.Goals.{In-Some, In_ok-sources}
 
-pub returns-then-t-at : goal.returns-then-t-at
-returns-then-t-at c = fit_refused (bad_store_lem c.requires.passed.0 (store_of c.args.t.now) refl (past_end c.args.t.now (omega arith)))
+-- the bytes that are lent are the store's
+store : (c : In-Some) → c.in-Some.bytes.now ≡ store_of c.args.t.now
+store c = is_store c.args.t.now c.args.at c.requires.1 c.in-Some.ensures.lookup.0.2
 
-pub returns-then-bad_store : goal.returns-then-bad_store
-returns-then-bad_store c = let s = take (length c.args.t.now - c.args.at) (drop c.args.at c.args.t.now) in
-    let is = is_store c.args.t.now c.args.at c.requires.passed.1 in
-    let bad = c.bad_store.ensures in
-    fit_refused (bad_store_lem c.requires.passed.0 s is (sym bad ∙ c.if-bad_store.true))
+pub returns-in_default : goal.returns-in_default
+returns-in_default c = fit_refused (bad_store_lem c.requires.0 (store_of c.args.t.now) refl (past_end c.args.t.now (grind (arith, c.in_default.ensures.lookup))))
 
-pub u16_at-count-requires : goal.u16_at-count-requires
-u16_at-count-requires c = let s = take (length c.args.t.now - c.args.at) (drop c.args.at c.args.t.now) in
-    let is = is_store c.args.t.now c.args.at c.requires.passed.1 in
-    let bad = c.bad_store.ensures in
-    (store_inside s (sym bad ∙ c.if-bad_store.false)).head
+pub returns-in_err-store : goal.returns-in_err-store
+returns-in_err-store c =
+    let p = err_from_is_err_and c.from_residual.result c.from_residual.ensures.1 in
+    let is = store (goal.at.returns-in_err-store c).In-Some in
+    rw (p.1, p.2, c.in_err-store.ensures.0) (fit_refused (bad_store_lem c.requires.0 _ is c.in_err-store.ensures.1))
 
 pub returns-then-count-eq0 : goal.returns-then-count-eq0
-unfolding subtable_count
-returns-then-count-eq0 c = let s = take (length c.args.t.now - c.args.at) (drop c.args.at c.args.t.now) in
-    let is = is_store c.args.t.now c.args.at c.requires.passed.1 in
-    let bad = c.bad_store.ensures in
-    let opened = sym bad ∙ c.if-bad_store.false in
-    let count = c.u16_at-count.ensures in
-    fit_refused (empty_store c.requires.passed.0 s is opened count.is c.if-count-eq0.true)
+returns-then-count-eq0 c =
+    let is = c.in_ok-store.ensures ∙ store (goal.at.returns-then-count-eq0 c).In-Some in
+    fit_refused (empty_store c.requires.0 _ is c.in_ok-store.store.sound c.count-count.ensures.value c.if-count-eq0.true)
 
-pub bad_maps-requires : goal.bad_maps-requires
-bad_maps-requires c = (header_inside _ _ c.requires.passed.0.header).head
+pub open-requires-2 : goal.open-requires-2
+open-requires-2 c = (header_inside _ _ c.requires.0.header).head
 
-pub returns-then-bad_maps : goal.returns-then-bad_maps
-unfolding subtable_count
-returns-then-bad_maps c = let s = take (length c.args.t.now - c.args.at) (drop c.args.at c.args.t.now) in
-    let is = is_store c.args.t.now c.args.at c.requires.passed.1 in
-    let bad = c.bad_store.ensures in
-    let opened = sym bad ∙ c.if-bad_store.false in
-    let count = c.u16_at-count.ensures in
-    let maps = c.bad_maps.ensures in
-    fit_refused (bad_map_lem c.requires.passed.0 s is opened count.is c.if-count-eq0.false (sym maps ∙ c.if-bad_maps.true))
+pub returns-in_err-sources : goal.returns-in_err-sources
+returns-in_err-sources c =
+    let p = err_from_is_err_and c.from_residual-in_err-sources.result c.from_residual-in_err-sources.ensures.1 in
+    let is = c.in_ok-store.ensures ∙ store (goal.at.returns-in_err-sources c).In-Some in
+    rw (p.1, p.2, c.in_err-sources.ensures.0)
+    (fit_refused (bad_map_lem c.requires.0 _ is c.in_ok-store.store.sound c.count-count.ensures.value c.if-count-eq0.false c.in_err-sources.ensures.1))
 
-pub bad_outers-requires-clause-maps_in_bounds : goal.bad_outers-requires-clause-maps_in_bounds
-bad_outers-requires-clause-maps_in_bounds c = let s = take (length c.args.t.now - c.args.at) (drop c.args.at c.args.t.now) in
-    let is = is_store c.args.t.now c.args.at c.requires.passed.1 in
-    let bad = c.bad_store.ensures in
-    let opened = sym bad ∙ c.if-bad_store.false in
-    let count = c.u16_at-count.ensures in
-    let maps = c.bad_maps.ensures in
-    (header_inside _ _ c.requires.passed.0.header).head
+-- what has passed, of the sources
+passed : (c : In_ok-sources) → let s = c.in_ok-sources.sources in Passed s.maps s.table.now c.args.glyphs.now
+passed c = rw (c.in_ok-sources.ensures.0, c.in_ok-sources.ensures.1) c.requires.0
 
-pub bad_outers-requires-clause-t_value : goal.bad_outers-requires-clause-t_value
-bad_outers-requires-clause-t_value c = let s = take (length c.args.t.now - c.args.at) (drop c.args.at c.args.t.now) in
-    let is = is_store c.args.t.now c.args.at c.requires.passed.1 in
-    let bad = c.bad_store.ensures in
-    let opened = sym bad ∙ c.if-bad_store.false in
-    let count = c.u16_at-count.ensures in
-    let maps = c.bad_maps.ensures in
-    sym maps ∙ c.if-bad_maps.false
+source_store : (c : In_ok-sources) → c.in_ok-store.store.bytes.now ≡ store_of c.in_ok-sources.sources.table.now
+source_store c = rw c.in_ok-sources.ensures.0 (c.in_ok-store.ensures ∙ store (goal.at.In_ok-sources c).In-Some)
 
 pub returns-then-bad_outers : goal.returns-then-bad_outers
-unfolding subtable_count
-returns-then-bad_outers c = let s = take (length c.args.t.now - c.args.at) (drop c.args.at c.args.t.now) in
-    let is = is_store c.args.t.now c.args.at c.requires.passed.1 in
-    let bad = c.bad_store.ensures in
-    let opened = sym bad ∙ c.if-bad_store.false in
-    let count = c.u16_at-count.ensures in
-    let maps = c.bad_maps.ensures in
-    let outers = c.bad_outers.ensures in
-    fit_refused (bad_outer_lem c.requires.passed.0 s is opened count.is c.if-count-eq0.false (sym maps ∙ c.if-bad_maps.false) (sym outers ∙ c.if-bad_outers.true))
+returns-then-bad_outers c =
+    let g = (goal.at.returns-then-bad_outers c).In_ok-sources in
+    let outers = sym c.bad_outers.ensures ∙ c.if-bad_outers.true in
+    rw (← c.in_ok-sources.ensures.0, ← c.in_ok-sources.ensures.1)
+    (fit_refused (bad_outer_lem (passed g) _ (source_store g) c.in_ok-store.store.sound c.count-count.ensures.value c.if-count-eq0.false c.in_ok-sources.sources.sound outers))
 
-pub collect-n-requires-clause-work_len : goal.collect-n-requires-clause-work_len
-unfolding subtable_count
-collect-n-requires-clause-work_len c = let s = take (length c.args.t.now - c.args.at) (drop c.args.at c.args.t.now) in
-    let is = is_store c.args.t.now c.args.at c.requires.passed.1 in
-    let bad = c.bad_store.ensures in
-    let opened = sym bad ∙ c.if-bad_store.false in
-    let count = c.u16_at-count.ensures in
-    let maps = c.bad_maps.ensures in
-    let outers = c.bad_outers.ensures in
-    let p = c.requires.passed.0 in
-    let few = (store_inside s opened).few in
-    c.requires.work_len
+pub collect-n-requires : goal.collect-n-requires
+collect-n-requires c = checked (passed (goal.at.collect-n-requires c).In_ok-sources) c.count-count.ensures.upper_bound (sym c.bad_outers.ensures ∙ c.if-bad_outers.false)
 
-pub collect-n-requires-clause-checked : goal.collect-n-requires-clause-checked
-unfolding subtable_count
-collect-n-requires-clause-checked c = let s = take (length c.args.t.now - c.args.at) (drop c.args.at c.args.t.now) in
-    let is = is_store c.args.t.now c.args.at c.requires.passed.1 in
-    let bad = c.bad_store.ensures in
-    let opened = sym bad ∙ c.if-bad_store.false in
-    let count = c.u16_at-count.ensures in
-    let maps = c.bad_maps.ensures in
-    let outers = c.bad_outers.ensures in
-    let p = c.requires.passed.0 in
-    let few = (store_inside s opened).few in
-    checked p (sym maps ∙ c.if-bad_maps.false) (omega (arith, count.is, few)) (sym outers ∙ c.if-bad_outers.false)
-
-pub cut_kept-requires-clause-s_value : goal.cut_kept-requires-clause-s_value
-unfolding subtable_count
-cut_kept-requires-clause-s_value c = let s = take (length c.args.t.now - c.args.at) (drop c.args.at c.args.t.now) in
-    let is = is_store c.args.t.now c.args.at c.requires.passed.1 in
-    let bad = c.bad_store.ensures in
-    let opened = sym bad ∙ c.if-bad_store.false in
-    let count = c.u16_at-count.ensures in
-    let maps = c.bad_maps.ensures in
-    let outers = c.bad_outers.ensures in
-    let p = c.requires.passed.0 in
-    let few = (store_inside s opened).few in
-    let passed = checked p (sym maps ∙ c.if-bad_maps.false) (omega (arith, count.is, few)) (sym outers ∙ c.if-bad_outers.false) in
-    (is, opened)
+pub cut_kept-requires-clause-store_value : goal.cut_kept-requires-clause-store_value
+cut_kept-requires-clause-store_value c = source_store (goal.at.cut_kept-requires-clause-store_value c).In_ok-sources
 
 pub cut_kept-requires-clause-collected : goal.cut_kept-requires-clause-collected
-unfolding subtable_count
-cut_kept-requires-clause-collected c = let s = take (length c.args.t.now - c.args.at) (drop c.args.at c.args.t.now) in
-    let is = is_store c.args.t.now c.args.at c.requires.passed.1 in
-    let bad = c.bad_store.ensures in
-    let opened = sym bad ∙ c.if-bad_store.false in
-    let count = c.u16_at-count.ensures in
-    let maps = c.bad_maps.ensures in
-    let outers = c.bad_outers.ensures in
-    let p = c.requires.passed.0 in
-    let few = (store_inside s opened).few in
-    let passed = checked p (sym maps ∙ c.if-bad_maps.false) (omega (arith, count.is, few)) (sym outers ∙ c.if-bad_outers.false) in
-    collected passed p.glyphs c.collect-n.ensures.work_after c.collect-n.ensures.numbered
+cut_kept-requires-clause-collected c = collected (passed (goal.at.cut_kept-requires-clause-collected c).In_ok-sources) c.collect-n.ensures.work_after c.collect-n.ensures.numbered
 
 pub returns : goal.returns
-unfolding subtable_count
-returns c = let s = take (length c.args.t.now - c.args.at) (drop c.args.at c.args.t.now) in
-    let is = is_store c.args.t.now c.args.at c.requires.passed.1 in
-    let bad = c.bad_store.ensures in
-    let opened = sym bad ∙ c.if-bad_store.false in
-    let count = c.u16_at-count.ensures in
-    let maps = c.bad_maps.ensures in
-    let outers = c.bad_outers.ensures in
-    fit_as (all_passed c.requires.passed.0 s is opened count.is c.if-count-eq0.false (sym maps ∙ c.if-bad_maps.false) (sym outers ∙ c.if-bad_outers.false)) c.cut_kept.ensures
+returns c =
+    let g = (goal.at.returns c).In_ok-sources in
+    let outers = sym c.bad_outers.ensures ∙ c.if-bad_outers.false in
+    rw (← c.in_ok-sources.ensures.0, ← c.in_ok-sources.ensures.1)
+    (fit_as (all_passed (passed g) _ (source_store g) c.in_ok-store.store.sound c.count-count.ensures.value c.if-count-eq0.false c.in_ok-sources.sources.sound outers) c.cut_kept.ensures)

@@ -1,4 +1,3 @@
-use borrow.Author.Rules.{rules}
 use Rattle.rules.specs.TableCut.{cut_hvar}
 use Rattle.tables.proofs.cut_hvar.Goals as goal
 

@@ -5,7 +5,6 @@ use Rattle.opentype.specs.Table.{store_at}
 use Rattle.laws.specs.Inside.{header_inside}
 use Rattle.laws.specs.Fitted.{fit_refused, fit_as}
 use Rattle.tables.proofs.Chain.{bad_list, short_header, null_store_lem}
-use borrow.Author.Rules.{rules}
 use Rattle.tables.proofs.cut_in.Goals as goal
 
 pub returns-then-bad_glyphs : goal.returns-then-bad_glyphs
@@ -18,33 +17,25 @@ pub u32_at-at-requires : goal.u32_at-at-requires
 u32_at-at-requires c = omega (arith, (header_inside _ _ (sym c.bad_header.ensures ∙ c.if-bad_header.false)).head)
 
 pub cut_null-requires : goal.cut_null-requires
-cut_null-requires c = (c.requires.2, omega (arith, (header_inside _ _ (sym c.bad_header.ensures ∙ c.if-bad_header.false)).head))
+cut_null-requires c = (c.requires.1, omega (arith, (header_inside _ _ (sym c.bad_header.ensures ∙ c.if-bad_header.false)).head))
 
 pub returns-then-at-eq0 : goal.returns-then-at-eq0
 unfolding store_at
-returns-then-at-eq0 c = let list = sym c.bad_glyphs.ensures ∙ c.if-bad_glyphs.false in
+returns-then-at-eq0 c =
+    let list = sym c.bad_glyphs.ensures ∙ c.if-bad_glyphs.false in
     let header = sym c.bad_header.ensures ∙ c.if-bad_header.false in
     fit_as (null_store_lem _ _ _ list header (sym c.u32_at-at.ensures.is ∙ c.if-at-eq0.true)) c.cut_null.ensures
 
-pub cut_at-requires-clause-work_len : goal.cut_at-requires-clause-work_len
+pub cut_at-requires : goal.cut_at-requires
 unfolding store_at
-cut_at-requires-clause-work_len c = let there = c.if-at-eq0.false in
-    let at = c.u32_at-at.ensures.is in
-    c.requires.0
-
-pub cut_at-requires-clause-passed : goal.cut_at-requires-clause-passed
-unfolding store_at
-cut_at-requires-clause-passed c = let there = c.if-at-eq0.false in
+cut_at-requires c =
     let at = c.u32_at-at.ensures.is in (
       record {
-        one = c.requires.1;
-        four = c.requires.2;
+        one = c.requires.0;
+        four = c.requires.1;
         glyphs = sym c.bad_glyphs.ensures ∙ c.if-bad_glyphs.false;
         header = sym c.bad_header.ensures ∙ c.if-bad_header.false;
-        there = ne_via _ _ _ at there;
+        there = ne_via _ _ _ at c.if-at-eq0.false;
       },
       at,
     )
-
-pub returns : goal.returns
-returns c = c.cut_at.ensures

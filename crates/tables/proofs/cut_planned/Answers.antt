@@ -1,15 +1,15 @@
 use Prim.Native.Nat.{ℕ, ◌≤◌}
-use mathlib.Core.Path.{sym, ap, ◌∙◌}
+use mathlib.Core.Path.{ap, ◌∙◌}
 use mathlib.Core.List.{List}
-use Rattle.rules.specs.Numbering.{kept_pairs}
 use native.Mathlib.Omega.{arith}
-use lib.ListN.{length, take}
+use lib.ListN.{length}
+use Rattle.std.proofs.lemmas.Result.{err_from_is_err_and}
+use Rattle.rules.specs.Numbering.{kept_pairs}
 use Rattle.lists.proofs.Cuts.{front_same}
 use Rattle.laws.specs.Fitted.{fit_refused, fit_short, fit_written}
 use Rattle.frame.specs.Plans.{Collected, part_at}
 use Rattle.tables.specs.Cut.{store_kept}
-use Rattle.frame.proofs.MapPlans.{planned_small, planned_narrow}
-use Rattle.tables.proofs.Stores.{kept_as, in_pairs, still_collected, still_kept}
+use Rattle.tables.proofs.Stores.{kept_length, kept_small, still_collected, still_kept}
 use Rattle.tables.proofs.Laying.{table_length, table_laid, wide_outcome, laid_outcome}
 use borrow.Author.Rules.{rules}
 use Rattle.tables.proofs.cut_planned.Goals as goal
@@ -17,56 +17,43 @@ use Rattle.tables.proofs.cut_planned.Goals.{After-index}
 
 -- with the index made, what is collected stands as before
 collected : (c : After-index)
-    → Collected c.args.maps c.args.t.now c.args.glyphs.now c.args.n c.index.new.work
+    → Collected c.args.sources.now.maps c.args.sources.now.table.now c.args.glyphs.now c.args.n c.index.new.work
 collected c = still_collected c.requires.collected (front_same c.index.new.work c.args.work.now 9088 c.index.ensures 8704 (omega arith)) (search rules)
 
-pub plan_maps-p-requires : goal.plan_maps-p-requires
-plan_maps-p-requires c = collected (goal.at.plan_maps-p-requires c).After-index
+pub plan_maps-requires : goal.plan_maps-requires
+plan_maps-requires c = collected (goal.at.plan_maps-requires c).After-index
 
-pub returns-then-p : goal.returns-then-p
-returns-then-p c =
-    let p = c.plan_maps-p.ensures in
-    fit_refused (wide_outcome _ _ _ _ _ (sym p.entries ∙ c.if-p.true))
+pub returns-in_err-p : goal.returns-in_err-p
+returns-in_err-p c =
+    let p = err_from_is_err_and c.from_residual.result c.from_residual.ensures.1 in
+    rw (p.1, p.2, c.in_err-p.ensures.0) (fit_refused (wide_outcome _ _ _ _ _ c.in_err-p.ensures.1))
 
 pub returns-then-out-end : goal.returns-then-out-end
 returns-then-out-end c =
-    let p = c.plan_maps-p.ensures in
-    let k = c.requires.store_kept.0 in
-    let n = table_length c.args.maps c.args.t.now (store_kept c.args.s.now (kept_pairs c.args.maps c.args.t.now c.args.glyphs.now) c.args.planned) (λ m. part_at c.args.maps c.args.t.now c.args.glyphs.now m) (omega (arith, c.requires.collected.header)) in
-    fit_short _ (laid_outcome _ _ _ _ _ (sym p.entries ∙ c.if-p.false)) (omega (arith, p.bytes, k.size, n))
+    let s = c.args.sources.now in
+    let kept = store_kept (kept_pairs s.maps s.table.now c.args.glyphs.now) c.args.layout.now in
+    let p = c.in_ok-p.ensures.1 in
+    let n = table_length s.maps s.table.now kept (λ m. part_at s.maps s.table.now c.args.glyphs.now m) (omega (arith, s.room)) in
+    fit_short _ (laid_outcome _ _ _ _ _ p.entries) (omega (arith, p.bytes, kept_length _ _ _ c.requires.kept, c.store_length.ensures, n))
 
 pub put_header-requires-clause-maps_bound : goal.put_header-requires-clause-maps_bound
-put_header-requires-clause-maps_bound c =
-    let p = c.plan_maps-p.ensures in
-    (c.requires.collected.four, search rules, omega (arith, c.requires.collected.header), omega arith)
-
-pub put_header-requires-clause-small : goal.put_header-requires-clause-small
-put_header-requires-clause-small c =
-    let p = c.plan_maps-p.ensures in
-    planned_small p
+put_header-requires-clause-maps_bound c = (c.requires.collected.four, search rules, omega (arith, kept_small _ _ _ c.requires.kept, c.store_length.ensures, c.requires.collected.four))
 
 pub put_maps-requires-clause-collected : goal.put_maps-requires-clause-collected
-put_maps-requires-clause-collected c =
-    let p = c.plan_maps-p.ensures in
-    collected (goal.at.put_maps-requires-clause-collected c).After-index
+put_maps-requires-clause-collected c = collected (goal.at.put_maps-requires-clause-collected c).After-index
 
-pub put_maps-requires-clause-maps_planned : goal.put_maps-requires-clause-maps_planned
-put_maps-requires-clause-maps_planned c =
-    let p = c.plan_maps-p.ensures in
-    planned_narrow p c.if-p.false (search rules)
-
-pub put_planned-requires : goal.put_planned-requires
-put_planned-requires c =
-    let k = c.requires.store_kept.0 in
-    in_pairs (take c.args.n c.index.new.work) (collected (goal.at.put_planned-requires c).After-index).pairs (kept_as (still_kept c.index.new.work c.index.ensures (search rules) k) (search rules))
+pub put_planned-requires-clause-kept : goal.put_planned-requires-clause-kept
+put_planned-requires-clause-kept c =
+    rw (collected (goal.at.put_planned-requires-clause-kept c).After-index).pairs (still_kept _ _ c.index.new.work c.index.ensures _ c.requires.kept)
 
 pub returns : goal.returns
 returns c =
-    let p = c.plan_maps-p.ensures in
-    let k = c.requires.store_kept.0 in
-    let four : 4 ≤ length c.args.t.now = omega (arith, c.requires.collected.header) in
-    let n = table_length c.args.maps c.args.t.now (store_kept c.args.s.now (kept_pairs c.args.maps c.args.t.now c.args.glyphs.now) c.args.planned) (λ m. part_at c.args.maps c.args.t.now c.args.glyphs.now m) four in
-    let same = ap (λ (pairs : List ℕ). store_kept c.args.s.now pairs c.args.planned) (collected (goal.at.returns c).After-index).pairs in
-    let fits = c.if-out-end.false in
-    let laid = table_laid c.args.out.now (store_kept c.args.s.now (kept_pairs c.args.maps c.args.t.now c.args.glyphs.now) c.args.planned) c.args.size p k.size four c.put_header.ensures (c.put_planned.ensures ∙ same) c.put_maps.ensures fits in
-    fit_written _ (laid_outcome _ _ _ _ _ (sym p.entries ∙ c.if-p.false)) (omega (arith, p.bytes, k.size, n)) fits laid
+    let s = c.args.sources.now in
+    let kept = store_kept (kept_pairs s.maps s.table.now c.args.glyphs.now) c.args.layout.now in
+    let p = c.in_ok-p.ensures.1 in
+    let four : 4 ≤ length s.table.now = omega (arith, s.room) in
+    let size = c.store_length.ensures ∙ kept_length _ _ _ c.requires.kept in
+    let n = table_length s.maps s.table.now kept (λ m. part_at s.maps s.table.now c.args.glyphs.now m) four in
+    let same = ap (λ (pairs : List ℕ). store_kept pairs c.args.layout.now) (collected (goal.at.returns c).After-index).pairs in
+    let laid = table_laid c.args.out.now kept c.store_length.result p size four c.put_header.ensures (c.put_planned.ensures ∙ same) c.put_maps.ensures c.if-out-end.false in
+    fit_written _ (laid_outcome _ _ _ _ _ p.entries) (omega (arith, p.bytes, size, n)) c.if-out-end.false laid

@@ -1,4 +1,3 @@
-use borrow.Author.Rules.{rules}
 use Rattle.rules.specs.TableCut.{cut_vvar}
 use Rattle.tables.proofs.cut_vvar.Goals as goal
 
