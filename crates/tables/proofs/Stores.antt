@@ -82,7 +82,7 @@ checked p few named = record {
 
 pub collected : {maps : ℕ} {t es : List ℕ} {n : ℕ} {w : List ℕ} → Passed maps t es → take n w ≡ kept_pairs maps t es → Numbered w n
     → Collected maps t es n w
-collected p e d = record { four = p.four; pairs = e; numbered = d; ready = λ m h. ready p.glyphs d e h }
+collected p e d = record { four = p.four; pairs = e; numbered = d; ready = λ m h. ready p.glyphs e h }
 
 -- it stays
 
@@ -95,5 +95,5 @@ still_collected {v = v} c e l =
       four = c.four;
       pairs = same ∙ c.pairs;
       numbered = numbered;
-      ready = λ m h. let r = c.ready m h in record { glyphs = r.glyphs; numbered = numbered; kept = λ counted k g. rw same (r.kept counted k g) };
+      ready = λ m h. let r = c.ready m h in record { glyphs = r.glyphs; kept = λ counted k g. rw same (r.kept counted k g) };
     }

@@ -13,7 +13,7 @@ ghost use Rattle.tables.specs.Cut.{Passed, store_kept, length_kept, StoreKept, w
 use collect::collect;
 use frame::header::{cut_null, put_header};
 use frame::plans::{plan_maps, put_maps};
-use numbering::index;
+use numbering::{KeptPairs, index};
 use plan::{Layout, plan_store};
 use readers::bad_header;
 use readers::store::Store;
@@ -58,7 +58,11 @@ fn cut_planned(
         out.old result out.new }
 {
     index(work, n);
-    let p = plan_maps(work, n, sources, glyphs)?;
+    let kept = KeptPairs {
+        work: &*work,
+        count: n,
+    };
+    let p = plan_maps(&kept, sources, glyphs)?;
     let head = 8 + 4 * sources.maps;
     let middle = head + store_length(layout);
     let end = middle + p.length;
@@ -67,7 +71,7 @@ fn cut_planned(
     }
     let plans = &p.plans[..sources.maps];
     put_header(&mut out[..head], sources, plans, middle);
-    put_maps(&mut out[middle..end], work, n, sources, glyphs, plans);
+    put_maps(&mut out[middle..end], &kept, sources, glyphs, plans);
     put_planned(&mut out[head..middle], work, n, layout);
     Ok(end)
 }
@@ -129,7 +133,7 @@ fn cut_in(work: &mut WorkArea, t: &[u8], glyphs: &[u32], maps: usize, out: &mut 
     if bad_header(t, maps) {
         return Err(Refusal::BadHeader);
     }
-    let at = cells::u32_at(t, 4) as usize;
+    let at = cells::number_at::<4>(t, 4) as usize;
     if at == 0 {
         return cut_null(t, maps, out);
     }

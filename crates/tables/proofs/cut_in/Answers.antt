@@ -13,8 +13,8 @@ returns-then-bad_glyphs c = fit_refused (bad_list _ _ _ (sym c.bad_glyphs.ensure
 pub returns-then-bad_header : goal.returns-then-bad_header
 returns-then-bad_header c = fit_refused (short_header _ _ _ (sym c.bad_glyphs.ensures ∙ c.if-bad_glyphs.false) (sym c.bad_header.ensures ∙ c.if-bad_header.true))
 
-pub u32_at-at-requires : goal.u32_at-at-requires
-u32_at-at-requires c = omega (arith, (header_inside _ _ (sym c.bad_header.ensures ∙ c.if-bad_header.false)).head)
+pub number_at-at-requires-clause-in_bounds : goal.number_at-at-requires-clause-in_bounds
+number_at-at-requires-clause-in_bounds c = omega (arith, (header_inside _ _ (sym c.bad_header.ensures ∙ c.if-bad_header.false)).head)
 
 pub cut_null-requires : goal.cut_null-requires
 cut_null-requires c = (c.requires.1, omega (arith, (header_inside _ _ (sym c.bad_header.ensures ∙ c.if-bad_header.false)).head))
@@ -24,12 +24,12 @@ unfolding store_at
 returns-then-at-eq0 c =
     let list = sym c.bad_glyphs.ensures ∙ c.if-bad_glyphs.false in
     let header = sym c.bad_header.ensures ∙ c.if-bad_header.false in
-    fit_as (null_store_lem _ _ _ list header (sym c.u32_at-at.ensures.is ∙ c.if-at-eq0.true)) c.cut_null.ensures
+    fit_as (null_store_lem _ _ _ list header (sym c.number_at-at.ensures.is ∙ c.if-at-eq0.true)) c.cut_null.ensures
 
 pub cut_at-requires : goal.cut_at-requires
 unfolding store_at
 cut_at-requires c =
-    let at = c.u32_at-at.ensures.is in (
+    let at = c.number_at-at.ensures.is in (
       record {
         one = c.requires.0;
         four = c.requires.1;

@@ -20,6 +20,9 @@ collected : (c : After-index)
     → Collected c.args.sources.now.maps c.args.sources.now.table.now c.args.glyphs.now c.args.n c.index.new.work
 collected c = still_collected c.requires.collected (front_same c.index.new.work c.args.work.now 9088 c.index.ensures 8704 (omega arith)) (search rules)
 
+pub invariant_of-kept : goal.invariant_of-kept
+invariant_of-kept c = record { numbered = (collected (goal.at.invariant_of-kept c).After-index).numbered }
+
 pub plan_maps-requires : goal.plan_maps-requires
 plan_maps-requires c = collected (goal.at.plan_maps-requires c).After-index
 
