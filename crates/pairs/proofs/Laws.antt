@@ -54,10 +54,6 @@ inners_new n ps i f h z d q =
     rw q (none_before n (outer (get_or ps i 0)) ps i (omega arith)
     (λ k l. let a = outers_climb ps f k (i - 1) (omega arith) (omega arith) in let b = outers_climb ps f (i - 1) i (omega arith) h in omega (arith, a, b, d)))
 
-pub inners_same : {set : List ℕ} (ps : List ℕ) (i : ℕ) → (i ≡ 0 → ⊥) → outer (get_or ps i 0) ≡ outer (get_or ps (i - 1) 0) → Held set ps i
-    → Inners set (outer (get_or ps i 0)) (take i ps)
-inners_same ps i z e s = rw e (s.is (omega arith))
-
 -- the pair stands before it just if its inner is in the set
 pub inners_again : {set : List ℕ} (ps : List ℕ) (i : ℕ) → Inners set (outer (get_or ps i 0)) (take i ps) → has set (inner (get_or ps i 0)) ≡ again ps i
 inners_again ps i s =
@@ -138,19 +134,6 @@ rises_kept ps h r = rw (le-ltb most_pairs (length ps) h, climbs_not_fall 0 ps (c
 
 -- ---- a run of one outer
 
-pub one_first : (ps : List ℕ) (from : ℕ) → OneOuter ps from (from + 1)
-one_first ps from = record { after = omega arith; alike = λ k a b. let e : k ≡ from = omega arith in rw e }
-
-pub one_more : {ps : List ℕ} {from end : ℕ} → OneOuter ps from end → outer (get_or ps end 0) ≡ outer (get_or ps from 0) → OneOuter ps from (end + 1)
-one_more {ps} {from} {end} r e =
-    record {
-      after = omega (arith, r.after);
-      alike = λ k a b. elim (dec_lt k end) [
-        | yes l ↦ r.alike k a l
-        | no l ↦ (let q : k ≡ end = omega arith in rw q e)
-      ];
-    }
-
 -- a later pair with the outer: as outers don't fall, all before it have it
 pub one_leap : {ps : List ℕ} {from end : ℕ} (to : ℕ) → outers_fall ps ≡ false → OneOuter ps from end → end ≤ to → to < length ps
     → outer (get_or ps to 0) ≡ outer (get_or ps from 0) → OneOuter ps from (to + 1)
@@ -174,13 +157,6 @@ eight_of ps a k {c} e l =
     let all = take_all (length ps - a) (drop a ps) (rw length-drop (omega arith)) in
     let j : a + (8 * k + 7) ≡ a + 8 * k + 7 = omega arith in
     rw (e, all) (eight_last c (drop a ps) k l ∙ rw (get_or-drop, j))
-
--- the same of the first n pairs
-pub one_within : {ps : List ℕ} {n from end : ℕ} → OneOuter (take n ps) from end → end ≤ n → OneOuter ps from end
-one_within {ps} {n} {from} r h = record {
-  after = r.after;
-  alike = λ k a b. rw (get_or-take n ps k 0 (omega arith), get_or-take n ps from 0 (omega arith)) at (r.alike k a b);
-}
 
 -- ---- the first run of what is left
 
