@@ -66,9 +66,6 @@ pub record Tallied (s : List ℕ) (at : ℕ) (pairs : List ℕ) (column k n : �
   pub inside : k ≤ length pairs
   pub is : max n (column_size (kept_deltas s at (map (λ p. inner p) (drop k pairs)) column)) ≡ column_size (kept_deltas s at (map (λ p. inner p) pairs) column)
 
-pub tallied_none : (s : List ℕ) (at : ℕ) (pairs : List ℕ) (column : ℕ) → Tallied s at pairs column 0 0
-tallied_none s at pairs column = record { inside = omega arith; is = omega arith }
-
 module _ {s : List ℕ} {at : ℕ} {pairs : List ℕ} {column k n : ℕ} (t : Tallied s at pairs column k n) where
   pub tallied_more : {m : ℕ} {z : ℤ} → k < length pairs → SFits w32 z → z ≡ delta s at (inner (get_or pairs k 0)) column
       → m ≡ max n (size (to_z w32 (of_z w32 z))) → Tallied s at pairs column (k + 1) m

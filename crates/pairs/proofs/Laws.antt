@@ -53,10 +53,6 @@ inners_new n ps i f h z d q =
     rw q (none_before n (outer (get_or ps i 0)) ps i (omega arith)
     (λ k l. let a = outers_climb ps f k (i - 1) (omega arith) (omega arith) in let b = outers_climb ps f (i - 1) i (omega arith) h in omega (arith, a, b, d)))
 
-pub inners_same : {set : List ℕ} (ps : List ℕ) (i : ℕ) → (i ≡ 0 → ⊥) → outer (get_or ps i 0) ≡ outer (get_or ps (i - 1) 0) → Held set ps i
-    → Inners set (outer (get_or ps i 0)) (take i ps)
-inners_same ps i z e s = rw e (s.is (omega arith))
-
 -- the pair stands before it just if its inner is in the set
 pub inners_again : {set : List ℕ} (ps : List ℕ) (i : ℕ) → Inners set (outer (get_or ps i 0)) (take i ps) → has set (inner (get_or ps i 0)) ≡ again ps i
 inners_again ps i s =
@@ -142,19 +138,6 @@ unfolding bad_pairs
 rises_kept ps h r = rw (le-ltb most_pairs (length ps) h, climbs_not_fall 0 ps (climbs_rising 0 0 ps (omega arith) r), once_rising 0 ps r)
 
 -- ---- a run of one outer
-
-pub one_first : (ps : List ℕ) (from : ℕ) → OneOuter ps from (from + 1)
-one_first ps from = record { after = omega arith; alike = λ k a b. let e : k ≡ from = omega arith in rw e }
-
-pub one_more : {ps : List ℕ} {from end : ℕ} → OneOuter ps from end → outer (get_or ps end 0) ≡ outer (get_or ps from 0) → OneOuter ps from (end + 1)
-one_more {ps} {from} {end} r e =
-    record {
-      after = omega (arith, r.after);
-      alike = λ k a b. elim (dec_lt k end) [
-        | yes l ↦ r.alike k a l
-        | no l ↦ (let q : k ≡ end = omega arith in rw q e)
-      ];
-    }
 
 -- a later pair with the outer: as outers don't fall, all before it have it
 pub one_leap : {ps : List ℕ} {from end : ℕ} (to : ℕ) → outers_fall ps ≡ false → OneOuter ps from end → end ≤ to → to < length ps

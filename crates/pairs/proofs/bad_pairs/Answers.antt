@@ -15,9 +15,6 @@ pub returns-then-outers_fall : goal.returns-then-outers_fall
 unfolding bad_pairs
 returns-then-outers_fall c = let h = sym c.outers_fall.ensures ∙ c.if-outers_fall.true in search chain
 
-pub stands_twice-requires-clause-pairs_value : goal.stands_twice-requires-clause-pairs_value
-stands_twice-requires-clause-pairs_value c = sym c.outers_fall.ensures ∙ c.if-outers_fall.false
-
 pub returns : goal.returns
 unfolding bad_pairs
 returns c = let h = sym c.outers_fall.ensures ∙ c.if-outers_fall.false in search chain

@@ -1,5 +1,5 @@
 use native.Mathlib.Omega.{arith}
-use Rattle.pairs.proofs.Laws.{inners_first, inners_new, inners_same}
+use Rattle.pairs.proofs.Laws.{inners_first, inners_new}
 use Rattle.pairs.proofs.turn_to.Goals as goal
 use Rattle.pairs.proofs.turn_to.Goals.{then-i-eq0-via-then-i-eq0, then-i-eq0-via-else-i-eq0+then-pairs-i}
 
@@ -9,6 +9,3 @@ returns-then-i-eq0 c = let a = c.args in
       | then-i-eq0-via-then-i-eq0 w ↦ inners_first _ a.pairs.now a.i _ w.if-i-eq0.true (c.fill.ensures.after (λ y e. e))
       | then-i-eq0-via-else-i-eq0+then-pairs-i w ↦ inners_new _ a.pairs.now a.i c.requires.pairs_value c.requires.i_in_bounds w.if-i-eq0.false (omega (arith, w.if-pairs-i.true)) (c.fill.ensures.after (λ y e. e))
     ]
-
-pub returns-else-pairs-i : goal.returns-else-pairs-i
-returns-else-pairs-i c = inners_same c.args.pairs.now c.args.i c.if-i-eq0.false c.if-pairs-i.false c.requires.held

@@ -2,7 +2,7 @@ use Prim.Native.Nat.{◌+◌}
 use mathlib.Core.Path.{◌∙◌}
 use native.Mathlib.Omega.{arith}
 use Rattle.columns.specs.Tally.{number_of_size}
-use Rattle.columns.proofs.Tallies.{Tallied, tallied_none, tallied_more, tallied_most, tallied_end}
+use Rattle.columns.proofs.Tallies.{Tallied, tallied_more, tallied_most, tallied_end}
 use Rattle.columns.proofs.tally.column_size.Goals as goal
 use Rattle.columns.proofs.tally.column_size.Goals.{After-take-tally}
 
@@ -11,9 +11,6 @@ turn : (c : After-take-tally) → let a = c.args in
     Tallied a.t.now.bytes.now a.t.now.shape.at a.pairs.now a.column (c.loop-pair.pair-index + 1) (number_of_size c.take-tally.result.size)
 turn c =
     tallied_more c.loop-pair.invariant c.loop-pair-test.true (record { sfits = c.delta.type_inv }) c.delta.ensures c.take-tally.ensures
-
-pub loop-pair-init : goal.loop-pair-init
-loop-pair-init c = tallied_none _ _ _ _
 
 pub returns-then-number-end : goal.returns-then-number-end
 returns-then-number-end c =
