@@ -28,7 +28,7 @@ pub fn plan_maps(
 ) -> Result<Plans, Refusal>
     requires { Collected sources.now.maps sources.now.table.now glyphs.now kept.now.count kept.now.work.now }
     ensures { MatchResult result
-        (λ p. (length p.plans ≡ 4) × MapsPlanned sources.now.maps sources.now.table.now glyphs.now (take sources.now.maps p.plans) p.length sources.now.maps)
+        (λ p. MapsPlanned sources.now.maps sources.now.table.now glyphs.now (take sources.now.maps p.plans) p.length sources.now.maps)
         (λ r. (r ≡ Refusal.WideEntry) × (some (λ m. wide_entry sources.now.table.now (kept_runs sources.now.maps sources.now.table.now glyphs.now) glyphs.now m) sources.now.maps ≡ true)) }
 {
     let limit = inner_limit(kept);

@@ -35,7 +35,7 @@ pub returns-then-out-end : goal.returns-then-out-end
 returns-then-out-end c =
     let s = c.args.sources.now in
     let kept = store_kept (kept_pairs s.maps s.table.now c.args.glyphs.now) c.args.layout.now in
-    let p = c.in_ok-p.ensures.1 in
+    let p = c.in_ok-p.ensures in
     let n = table_length s.maps s.table.now kept (λ m. part_at s.maps s.table.now c.args.glyphs.now m) (omega (arith, s.room)) in
     fit_short _ (laid_outcome _ _ _ _ _ p.entries) (omega (arith, p.bytes, kept_length _ _ _ c.requires.kept, c.store_length.ensures, n))
 
@@ -53,7 +53,7 @@ pub returns : goal.returns
 returns c =
     let s = c.args.sources.now in
     let kept = store_kept (kept_pairs s.maps s.table.now c.args.glyphs.now) c.args.layout.now in
-    let p = c.in_ok-p.ensures.1 in
+    let p = c.in_ok-p.ensures in
     let four : 4 ≤ length s.table.now = omega (arith, s.room) in
     let size = c.store_length.ensures ∙ kept_length _ _ _ c.requires.kept in
     let n = table_length s.maps s.table.now kept (λ m. part_at s.maps s.table.now c.args.glyphs.now m) four in

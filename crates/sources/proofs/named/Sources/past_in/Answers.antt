@@ -1,4 +1,3 @@
-use Rattle.std.proofs.Common.{sym, ◌∙◌}
 use Rattle.sources.proofs.Pairs.{counts_is, pairs_are}
 use Rattle.sources.proofs.named.Sources.past_in.Goals as goal
 

@@ -1,4 +1,4 @@
-use Rattle.std.proofs.Common.{refl, sym, ◌∙◌}
+use Rattle.std.proofs.Common.{sym, ◌∙◌}
 use Rattle.opentype.specs.Table.{map_at}
 use Rattle.sources.proofs.Pairs.{usable, map_good}
 use Rattle.sources.proofs.named.Sources.source.Goals as goal
