@@ -1,5 +1,4 @@
-use Rattle.std.proofs.Common.{◌<◌, ◌+◌, arith, ◌≡◌, ◌∙◌}
-use Rattle.cells.specs.Be.{Cell}
+use Rattle.std.proofs.Common.{◌<◌, ◌+◌, arith, ◌∙◌}
 use Rattle.cells.proofs.Cells.{cell_none, cell_more, cell_of, cell_room, length-part, part_byte}
 use Rattle.cells.proofs.number_at.Goals as goal
 use Rattle.cells.proofs.number_at.Given.{Over}

@@ -1,4 +1,4 @@
-use Rattle.std.proofs.Common.{ℕ, ◌≡◌}
+use Rattle.std.proofs.Common.{◌≡◌}
 use Rattle.std.proofs.lemmas.List.Edits.{sets}
 use Rattle.cells.specs.Be.{be_bytes}
 use Rattle.cells.proofs.put_number.Given as goal

@@ -1,7 +1,6 @@
 use Rattle.lists.specs.Pick.{chain}
 use Rattle.opentype.specs.Table.{major_version, header_length}
 use Rattle.rules.specs.Open.{bad_header}
-use borrow.Author.Rules.{rules}
 use Rattle.readers.proofs.bad_header.Goals as goal
 
 pub returns-then-t-maps : goal.returns-then-t-maps

@@ -1,6 +1,6 @@
-use Rattle.std.proofs.Common.{sym, ap, ◌∙◌}
+use Rattle.std.proofs.Common.{sym}
 use Rattle.std.proofs.lemmas.Result.{err_from_is_err_and}
-use Rattle.rules.specs.Readers.{a_row, row_of}
+use Rattle.rules.specs.Readers.{row_of}
 use Rattle.readers.proofs.Answers.{store_refused, subtable_refused, row_read}
 use Rattle.readers.proofs.try_read_row.Goals as goal
 

@@ -1,9 +1,8 @@
 use native.Mathlib.Omega.{arith}
 use mathlib.Core.Path.{◌≡◌, ◌∙◌, refl}
 use mathlib.Core.Bool.{true, false}
-use borrow.Author.Rules.{rules}
 use Rattle.lists.proofs.Tests.{some_none, some_more, some_at}
-use Rattle.columns.proofs.Searches.{unfound_none, unfound_more, found_here, found_nowhere, not-long, by_words}
+use Rattle.columns.proofs.Searches.{unfound_more, found_here, found_nowhere, not-long, by_words}
 use Rattle.columns.proofs.long.keeps_long.Goals as goal
 
 pub returns-then-not-t : goal.returns-then-not-t

@@ -9,7 +9,6 @@ use Rattle.lists.specs.Pick.{pick, chain}
 use Rattle.opentype.specs.Map.{map_format, entry_format, inner_bits, entry_bytes, map_head, map_count}
 use Rattle.rules.specs.Open.{bad_map}
 use Rattle.readers.proofs.Fits.{entries_fit}
-use borrow.Author.Rules.{rules}
 use Rattle.readers.proofs.map.bad_map.Goals as goal
 use Rattle.readers.proofs.map.bad_map.Goals.{After-entry_count-count}
 

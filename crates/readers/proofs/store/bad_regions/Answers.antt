@@ -5,7 +5,6 @@ use Rattle.opentype.specs.Store.{regions_at, axis_count, region_count, record_le
 use Rattle.rules.specs.Open.{bad_regions}
 use Rattle.laws.specs.Inside.{store_inside}
 use Rattle.readers.proofs.Fits.{records_fit}
-use borrow.Author.Rules.{rules}
 use Rattle.readers.proofs.store.bad_regions.Goals as goal
 
 pub number_at-at-requires-clause-in_bounds : goal.number_at-at-requires-clause-in_bounds

@@ -1,7 +1,6 @@
 use Rattle.lists.specs.Pick.{chain}
 use Rattle.opentype.specs.Store.{store_format, subtable_count}
 use Rattle.rules.specs.Open.{bad_store}
-use borrow.Author.Rules.{rules}
 use Rattle.readers.proofs.store.bad_store.Goals as goal
 
 pub returns-then-s-lt8 : goal.returns-then-s-lt8

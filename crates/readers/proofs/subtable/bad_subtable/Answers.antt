@@ -4,7 +4,6 @@ use Rattle.lists.specs.Pick.{chain}
 use Rattle.opentype.specs.Subtable.{item_count, word_field, word_count, column_count, long, row_length, rows_at}
 use Rattle.rules.specs.Open.{bad_subtable}
 use Rattle.readers.proofs.Fits.{rows_fit}
-use borrow.Author.Rules.{rules}
 use Rattle.readers.proofs.subtable.bad_subtable.Goals as goal
 
 pub returns-then-s-at : goal.returns-then-s-at

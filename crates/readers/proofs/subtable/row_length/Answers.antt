@@ -1,6 +1,5 @@
 use native.Mathlib.Omega.{arith}
 use Rattle.opentype.specs.Subtable.{length_of_row}
-use borrow.Author.Rules.{rules}
 use Rattle.readers.proofs.subtable.row_length.Goals as goal
 
 pub returns-then-long : goal.returns-then-long

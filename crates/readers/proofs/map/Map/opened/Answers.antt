@@ -2,7 +2,6 @@ use native.Mathlib.Omega.{arith}
 use Rattle.opentype.specs.Map.{map_format, map_head}
 use Rattle.laws.specs.Inside.{map_inside}
 use Rattle.readers.proofs.Maps.{opened_map}
-use borrow.Author.Rules.{rules}
 use Rattle.readers.proofs.map.Map.opened.Goals as goal
 
 pub number_at-format-requires-clause-in_bounds : goal.number_at-format-requires-clause-in_bounds

@@ -1,7 +1,6 @@
 use mathlib.Core.Path.{refl}
 use native.Mathlib.Omega.{arith}
 use Rattle.readers.proofs.Subtables.{head_inside, columns_few, whole}
-use borrow.Author.Rules.{rules}
 use Rattle.readers.proofs.store.Store.subtable_at.Goals as goal
 
 pub overflow_add-at : goal.overflow_add-at

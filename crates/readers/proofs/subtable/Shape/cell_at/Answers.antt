@@ -1,6 +1,5 @@
 use borrow.Author.Tests.{lt-ltb, le-ltb}
 use Rattle.opentype.specs.Subtable.{length_of_row, cell_at}
-use borrow.Author.Rules.{rules}
 use Rattle.readers.proofs.subtable.Shape.cell_at.Goals as goal
 
 pub returns-then-self : goal.returns-then-self

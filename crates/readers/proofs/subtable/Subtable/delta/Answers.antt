@@ -2,7 +2,6 @@ use Rattle.laws.specs.Rows.{row_inside, cell_has_size}
 use Rattle.cells.proofs.Twos.{same32}
 use native.Mathlib.Omega.{arith}
 use Rattle.readers.proofs.Subtables.{cell_ends, delta_there, delta_no_item, delta_no_column}
-use borrow.Author.Rules.{rules}
 use Rattle.readers.proofs.subtable.Subtable.delta.Goals as goal
 
 pub returns-then-shape-item : goal.returns-then-shape-item

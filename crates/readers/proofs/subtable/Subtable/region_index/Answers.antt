@@ -1,5 +1,4 @@
 use Rattle.opentype.specs.Subtable.{region_index}
-use borrow.Author.Rules.{rules}
 use Rattle.readers.proofs.subtable.Subtable.region_index.Goals as goal
 
 pub returns-clause-value : goal.returns-clause-value
