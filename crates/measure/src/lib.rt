@@ -7,6 +7,7 @@ ghost use Rattle.rules.specs.Lists.{outers_fall};
 ghost use Rattle.rows.specs.Area.{part, items};
 ghost use Rattle.measure.specs.Measured.{NoneUsed, with_subtable, Step, Fits, Measuring};
 
+use pairs::Climbing;
 use readers::store::Store;
 use readers::subtable::Subtable;
 use rows::{Columns, mark_regions, plan_columns};
@@ -83,7 +84,8 @@ pub fn measure_runs(
     let mut at = 0;
     // A turn goes on where its run ends, and no iterator lends the runs: the turn writes to the numbers that hold them.
     while at < n {
-        let end = pairs::end_of_run(&work[..n], at);
+        let pairs = Climbing { pairs: &work[..n] };
+        let end = pairs.end_of_run(at);
         let t = s.subtable((work[at] / 65536) as usize)?;
         m = measure_run(work, &t, m, at, end, regions);
         at = end;

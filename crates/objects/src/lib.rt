@@ -17,6 +17,7 @@ ghost use Rattle.objects.specs.Offsets.{offsets_by};
 ghost use Rattle.objects.specs.Runs.{run_in, RunReady};
 
 use cells::put_number;
+use pairs::Climbing;
 use plan::{Layout, list_length};
 use readers::store::{Regions, Store};
 use rows::plan_columns;
@@ -119,7 +120,8 @@ pub fn put_subtables(out: &mut [u8], work: &mut WorkArea, s: &Store<'_>, n: usiz
     let mut k = 0;
     // A turn goes on where its run ends, and no iterator lends the runs: the turn writes to the numbers that hold them.
     while at < n {
-        let end = pairs::end_of_run(&work[..n], at);
+        let pairs = Climbing { pairs: &work[..n] };
+        let end = pairs.end_of_run(at);
         let stop = next + work[8832 + k] as usize;
         put_run(&mut out[next..stop], work, s, at, end);
         next = stop;

@@ -16,10 +16,10 @@ loop-at-init c =
     let none : Nothing c.default-m.result = record { count = h.0; length = h.1.0; live = h.1.1.0; index = h.1.1.1.0; middle = h.1.1.1.1 } in
     record { area = c.told-work; low = refl; turn = turn_first _ _ _ none c.requires.none_used.0 }
 
-pub end_of_run-end-requires-clause-pairs_value : goal.end_of_run-end-requires-clause-pairs_value
-end_of_run-end-requires-clause-pairs_value c =
+pub invariant_of-pairs : goal.invariant_of-pairs
+invariant_of-pairs c =
     let l = c.loop-at in
-    rw (front_same l.work c.args.work.now 8704 l.invariant.low c.args.n (omega arith)) c.requires.none_used.1
+    record { climb = rw (front_same l.work c.args.work.now 8704 l.invariant.low c.args.n (omega arith)) c.requires.none_used.1 }
 
 pub returns-in_err-t-clause-measuring : goal.returns-in_err-t-clause-measuring
 returns-in_err-t-clause-measuring c =

@@ -16,8 +16,8 @@ turn c =
 pub loop-at-init : goal.loop-at-init
 loop-at-init c = going_first _ _ c.told-work c.requires.passed c.requires.out_len
 
-pub end_of_run-end-requires-clause-pairs_value : goal.end_of_run-end-requires-clause-pairs_value
-end_of_run-end-requires-clause-pairs_value c = going_climb c.requires.passed c.loop-at.invariant
+pub invariant_of-pairs : goal.invariant_of-pairs
+invariant_of-pairs c = record { climb = going_climb c.requires.passed c.loop-at.invariant }
 
 pub overflow_add-stop : goal.overflow_add-stop
 overflow_add-stop c = omega (arith, turn c)

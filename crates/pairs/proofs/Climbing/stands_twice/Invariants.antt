@@ -3,7 +3,7 @@ use mathlib.Core.Bool.{false}
 use Rattle.laws.specs.Pairs.{again}
 use Rattle.lists.specs.Search.{some}
 use Rattle.pairs.specs.Pairs.{Held}
-use Rattle.pairs.proofs.stands_twice.Given as goal
+use Rattle.pairs.proofs.Climbing.stands_twice.Given as goal
 
 abbrev pub invariant-loop-i : goal.invariant-loop-i
-invariant-loop-i l = Held l.set l.pairs l.i × (some (again l.pairs) l.i ≡ false)
+invariant-loop-i l = Held l.set l.self.pairs.now l.i × (some (again l.self.pairs.now) l.i ≡ false)
