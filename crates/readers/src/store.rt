@@ -1,5 +1,5 @@
 // A store and its region list, opened. What the tests let through lies inside the bytes: the laws are in laws/specs/Inside.antt.
-ghost use Rattle.std.specs.Prelude.{◌≡◌, ◌≤◌, true, false, MatchResult};
+ghost use Rattle.std.specs.Prelude.{◌≡◌, ◌≤◌, ◌<◌, ◌^◌, true, false, MatchResult};
 ghost use Rattle.opentype.specs.Store.{regions_at, axis_count, region_count};
 ghost use Rattle.rules.specs.Open.{bad_store, bad_regions};
 
@@ -43,23 +43,6 @@ fn bad_store(s: &[u8]) -> bool
     s.len() < 8 + 4 * (count as usize)
 }
 
-// 4, of a store that row 3 lets through
-fn bad_regions(s: &[u8]) -> bool
-    requires { bad_store s.now ≡ false }
-    ensures { result ≡ bad_regions s.now }
-{
-    let at = cells::number_at::<4>(s, 2) as usize;
-    if s.len() < at + 4 {
-        return true;
-    }
-    let count = cells::number_at::<2>(s, at + 2);
-    if count > 4096 {
-        return true;
-    }
-    let record = 6 * (cells::number_at::<2>(s, at) as usize);
-    s.len() < at + 4 + (count as usize) * record
-}
-
 impl<'a> Store<'a> {
     ghost use Rattle.rules.specs.declared.Refusal.{Refusal};
     ghost use Rattle.opentype.specs.Store.{subtable_count};
@@ -83,16 +66,41 @@ impl<'a> Store<'a> {
         cells::number_at::<2>(self.bytes, 6) as usize
     }
 
+    // Where the region list starts; 0 where there is none.
+    pub fn regions_at(&self) -> usize
+        ensures value { result ≡ regions_at self.now.bytes.now }
+        ensures upper_bound { result < 2 ^ 32 }
+    {
+        cells::number_at::<4>(self.bytes, 2) as usize
+    }
+
+    // 4
+    pub fn bad_regions(&self) -> bool
+        ensures { result ≡ bad_regions self.now.bytes.now }
+    {
+        let s = self.bytes;
+        let at = self.regions_at();
+        if s.len() < at + 4 {
+            return true;
+        }
+        let count = cells::number_at::<2>(s, at + 2);
+        if count > 4096 {
+            return true;
+        }
+        let record = 6 * (cells::number_at::<2>(s, at) as usize);
+        s.len() < at + 4 + (count as usize) * record
+    }
+
     // The region list, where its offset isn't 0.
     pub fn regions(&self) -> Result<Option<Regions<'a>>, Refusal>
         ensures { RegionsOpening self.now.bytes.now result }
     {
         let bytes = self.bytes;
-        let at = cells::number_at::<4>(bytes, 2) as usize;
+        let at = self.regions_at();
         if at == 0 {
             return Ok(None);
         }
-        if bad_regions(bytes) {
+        if self.bad_regions() {
             return Err(Refusal::BadRegions);
         }
         Ok(Some(Regions {

@@ -89,12 +89,45 @@ fn bad_subtable(s: &[u8], at: usize) -> bool
 impl<'a> Store<'a> {
     ghost use Rattle.readers.specs.Opening.{Whole, Usable, Opening};
 
-    // The subtable at a place where 6 lets it through.
-    fn subtable_at(&self, at: usize) -> Subtable<'a>
-        requires { bad_subtable self.now.bytes.now at ≡ false }
-        ensures { (result.bytes.now ≡ self.now.bytes.now) × Whole self.now.bytes.now at result.shape }
+    // 5, then 6
+    pub fn subtable(&self, outer: usize) -> Result<Subtable<'a>, Refusal>
+        ensures { Opening self.now.bytes.now outer result }
     {
         let bytes = self.bytes;
+        if self.count() <= outer {
+            return Err(Refusal::AbsentSubtable);
+        }
+        let at = cells::number_at::<4>(bytes, 8 + 4 * outer) as usize;
+        if at == 0 {
+            return Err(Refusal::AbsentSubtable);
+        }
+        if bad_subtable(bytes, at) {
+            return Err(Refusal::BadSubtable);
+        }
+        Ok(Subtable::opened(bytes, at))
+    }
+
+    // The subtable of an outer that 5 and 6 let through before.
+    pub fn subtable_again(&self, outer: usize) -> Subtable<'a>
+        requires there { absent_subtable self.now.bytes.now outer ≡ false }
+        requires good { bad_subtable self.now.bytes.now (subtable_at self.now.bytes.now outer) ≡ false }
+        ensures { (result.bytes.now ≡ self.now.bytes.now) × Whole self.now.bytes.now (subtable_at self.now.bytes.now outer) result.shape }
+    {
+        Subtable::opened(
+            self.bytes,
+            cells::number_at::<4>(self.bytes, 8 + 4 * outer) as usize,
+        )
+    }
+}
+
+impl<'a> Subtable<'a> {
+    ghost use Rattle.readers.specs.Opening.{Whole};
+
+    // The subtable at a place where 6 lets it through.
+    pub fn opened(bytes: &'a [u8], at: usize) -> Self
+        requires { bad_subtable bytes.now at ≡ false }
+        ensures { (result.bytes.now ≡ bytes.now) × Whole bytes.now at result.shape }
+    {
         let field = cells::number_at::<2>(bytes, at + 2) as usize;
         let words = field % 32768;
         let columns = cells::number_at::<2>(bytes, at + 4) as usize;
@@ -114,35 +147,6 @@ impl<'a> Store<'a> {
         Subtable { bytes, shape }
     }
 
-    // 5, then 6
-    pub fn subtable(&self, outer: usize) -> Result<Subtable<'a>, Refusal>
-        ensures { Opening self.now.bytes.now outer result }
-    {
-        let bytes = self.bytes;
-        if self.count() <= outer {
-            return Err(Refusal::AbsentSubtable);
-        }
-        let at = cells::number_at::<4>(bytes, 8 + 4 * outer) as usize;
-        if at == 0 {
-            return Err(Refusal::AbsentSubtable);
-        }
-        if bad_subtable(bytes, at) {
-            return Err(Refusal::BadSubtable);
-        }
-        Ok(self.subtable_at(at))
-    }
-
-    // The subtable of an outer that 5 and 6 let through before.
-    pub fn subtable_again(&self, outer: usize) -> Subtable<'a>
-        requires there { absent_subtable self.now.bytes.now outer ≡ false }
-        requires good { bad_subtable self.now.bytes.now (subtable_at self.now.bytes.now outer) ≡ false }
-        ensures { (result.bytes.now ≡ self.now.bytes.now) × Whole self.now.bytes.now (subtable_at self.now.bytes.now outer) result.shape }
-    {
-        self.subtable_at(cells::number_at::<4>(self.bytes, 8 + 4 * outer) as usize)
-    }
-}
-
-impl<'a> Subtable<'a> {
     pub fn region_index(&self, column: usize) -> u32
         requires { column < self.now.shape.columns }
         ensures value { result ≡ region_index self.now.bytes.now self.now.shape.at column }

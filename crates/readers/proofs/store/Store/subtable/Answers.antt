@@ -22,4 +22,4 @@ returns-then-bad_subtable c =
 pub returns : goal.returns
 unfolding subtable_at
 returns c =
-    (c.subtable_at.ensures.0, usable_there _ _ c.count.ensures.value c.if-count-outer.false c.number_at-at.ensures.is c.if-at-eq0.false c.subtable_at.ensures.1)
+    (c.opened.ensures.0, usable_there _ _ c.count.ensures.value c.if-count-outer.false c.number_at-at.ensures.is c.if-at-eq0.false c.opened.ensures.1)

@@ -12,10 +12,10 @@ overflow_add-outer c = omega (arith, offset_inside _ _ c.args.self.now.sound c.r
 pub number_at-requires-clause-in_bounds : goal.number_at-requires-clause-in_bounds
 number_at-requires-clause-in_bounds c = omega (arith, offset_inside _ _ c.args.self.now.sound c.requires.there)
 
-pub subtable_at-requires : goal.subtable_at-requires
+pub opened-requires : goal.opened-requires
 unfolding subtable_at
-subtable_at-requires c = rw c.number_at.ensures.is c.requires.good
+opened-requires c = rw c.number_at.ensures.is c.requires.good
 
 pub returns : goal.returns
 unfolding subtable_at
-returns c = rw (← c.number_at.ensures.is) c.subtable_at.ensures
+returns c = rw (← c.number_at.ensures.is) c.opened.ensures

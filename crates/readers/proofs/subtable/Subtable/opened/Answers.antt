@@ -1,7 +1,7 @@
 use mathlib.Core.Path.{refl}
 use native.Mathlib.Omega.{arith}
 use Rattle.readers.proofs.Subtables.{head_inside, columns_few, whole}
-use Rattle.readers.proofs.store.Store.subtable_at.Goals as goal
+use Rattle.readers.proofs.subtable.Subtable.opened.Goals as goal
 
 pub overflow_add-at : goal.overflow_add-at
 overflow_add-at c = omega (arith, head_inside _ _ c.requires)
