@@ -2,41 +2,11 @@
 // compared with the record's.
 #![tactic(auto)]
 
-ghost use Rattle.std.specs.Prelude.{◌≡◌, ◌*◌, length};
+ghost use Rattle.std.specs.Prelude.{◌≡◌, length};
 
-use cells::number_at;
-use rules::Answer;
+use played::{Broken, OUT_MARK, WORK_MARK, answers, head, holds, left, numbers, read_part};
 use std::io;
 use std::io::Read;
-
-fn same_answer(a: Answer, number: u32, length: usize) -> bool {
-    match a {
-        Ok(n) => number == 0 && n == length,
-        Err(r) => u32::from(r) == number && length == 0,
-    }
-}
-
-// The first bytes are those wanted, the rest is 165.
-fn same_output(out: &[u8], want: &[u8]) -> bool {
-    out.strip_prefix(want)
-        .is_some_and(|rest| rest.iter().all(|b| *b == 165))
-}
-
-// After a refusal 1 all numbers are 7, else the first 16,384 are 0.
-fn same_work(work: &[u32], number: u32) -> bool {
-    let zeros = if number == 1 { 0 } else { 16384 };
-    work.iter()
-        .enumerate()
-        .all(|(i, v)| *v == if i < zeros { 0 } else { 7 })
-}
-
-fn pairs_of(pairs: &mut [u32], raw: &[u8])
-    requires { length raw.now ≡ 4 * length pairs.old }
-{
-    for (i, pair) in pairs.iter_mut().enumerate() {
-        *pair = number_at::<4>(raw, 4 * i);
-    }
-}
 
 // The numbers at the head of a record: the call's flag and lengths, and what is wanted.
 #[derive(Clone, Copy)]
@@ -54,23 +24,17 @@ struct Head {
 fn head_of(raw: &[u8]) -> Head
     requires { length raw.now ≡ 32 }
 {
+    let [keep, area, room, bytes, pairs, number, length, want] = head::<8>(raw);
     Head {
-        keep: number_at::<4>(raw, 0) == 1,
-        area: number_at::<4>(raw, 4) as usize,
-        room: number_at::<4>(raw, 8) as usize,
-        bytes: number_at::<4>(raw, 12) as usize,
-        pairs: number_at::<4>(raw, 16) as usize,
-        number: number_at::<4>(raw, 20),
-        length: number_at::<4>(raw, 24) as usize,
-        want: number_at::<4>(raw, 28) as usize,
+        keep: keep == 1,
+        area: area as usize,
+        room: room as usize,
+        bytes: bytes as usize,
+        pairs: pairs as usize,
+        number,
+        length: length as usize,
+        want: want as usize,
     }
-}
-
-// Reads n bytes, where there is room.
-fn read_bytes<'a>(input: &mut impl Read, to: &'a mut [u8], n: usize) -> Option<&'a [u8]> {
-    let part = to.get_mut(..n)?;
-    input.read_exact(part).ok()?;
-    Some(part)
 }
 
 // Reads n numbers, where there is room; they need not all be there.
@@ -79,23 +43,23 @@ fn read_pairs<'a>(
     pairs: &'a mut [u32],
     raw: &mut [u8],
     n: usize,
-) -> Option<&'a [u32]> {
-    let pairs = pairs.get_mut(..n)?;
-    let raw = raw.get_mut(..4 * n)?;
+) -> Result<&'a [u32], Broken> {
+    let pairs = pairs.get_mut(..n).ok_or(Broken)?;
+    let raw = raw.get_mut(..4 * n).ok_or(Broken)?;
     let _ = input.read_exact(raw);
-    pairs_of(pairs, raw);
-    Some(pairs)
+    numbers(raw, pairs);
+    Ok(pairs)
 }
 
 // Makes the call, and compares.
 fn call(h: Head, s: &[u8], pairs: &[u32], work: &mut [u32], out: &mut [u8], want: &[u8]) -> bool {
-    work.fill(7);
-    out.fill(165);
+    work.fill(WORK_MARK);
+    out.fill(OUT_MARK);
     let answer = store::cut_store(s, pairs, h.keep, work, out);
-    same_answer(answer, h.number, h.length) && same_output(out, want) && same_work(work, h.number)
+    answers(answer, h.number, h.length) && holds(out, want) && left(work, h.number)
 }
 
-// Reads the rest of a record, and plays it; none where it ends too early or a part is longer than any should be.
+// Reads the rest of a record, and plays it.
 fn play_record(
     input: &mut impl Read,
     head: &[u8],
@@ -105,16 +69,16 @@ fn play_record(
     want: &mut [u8],
     work: &mut [u32],
     out: &mut [u8],
-) -> Option<bool>
+) -> Result<bool, Broken>
     requires { length head.now ≡ 32 }
 {
     let h = head_of(head);
-    let bytes = read_bytes(input, bytes, h.bytes)?;
+    let bytes = read_part(input, bytes, h.bytes)?;
     let pairs = read_pairs(input, pairs, raw, h.pairs)?;
-    let want = read_bytes(input, want, h.want)?;
-    let work = work.get_mut(..h.area)?;
-    let out = out.get_mut(..h.room)?;
-    Some(call(h, bytes, pairs, work, out, want))
+    let want = read_part(input, want, h.want)?;
+    let work = work.get_mut(..h.area).ok_or(Broken)?;
+    let out = out.get_mut(..h.room).ok_or(Broken)?;
+    Ok(call(h, bytes, pairs, work, out, want))
 }
 
 // The most records that are played.
@@ -127,8 +91,8 @@ fn play_all(input: &mut impl Read) -> (u32, u32) {
     let mut raw = [0u8; 32800];
     let mut pairs = [0u32; 8200];
     let mut want = [0u8; 33000];
-    let mut work = [7u32; 16500];
-    let mut out = [165u8; 33000];
+    let mut work = [WORK_MARK; 16500];
+    let mut out = [OUT_MARK; 33000];
     let mut differ = 0;
     for calls in 0..MOST {
         if input.read_exact(&mut head).is_err() {
@@ -137,7 +101,7 @@ fn play_all(input: &mut impl Read) -> (u32, u32) {
         let same = play_record(
             input, &head, &mut bytes, &mut raw, &mut pairs, &mut want, &mut work, &mut out,
         );
-        if same != Some(true) {
+        if !matches!(same, Ok(true)) {
             differ += 1;
         }
     }

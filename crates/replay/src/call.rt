@@ -1,5 +1,5 @@
 // One call of the library, and whether it is answered as the list says.
-use crate::memory::{OUT_MARK, WORK_MARK, holds};
+use played::{OUT_MARK, WORK_MARK, answers, holds, left};
 use rules::Answer;
 
 // Which cut is asked for.
@@ -50,13 +50,6 @@ pub fn same(
 ) -> bool {
     work.fill(WORK_MARK);
     out.fill(OUT_MARK);
-    let (number, length) = match call(asked.cut, bytes, list, work, out) {
-        Ok(n) => (0, n),
-        Err(r) => (u32::from(r), 0),
-    };
-    let left = if number == 1 { WORK_MARK } else { 0 };
-    number == asked.number
-        && length == answer.len()
-        && holds(out, answer)
-        && work.iter().all(|w| *w == left)
+    let given = call(asked.cut, bytes, list, work, out);
+    answers(given, asked.number, answer.len()) && holds(out, answer) && left(work, asked.number)
 }

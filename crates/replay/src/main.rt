@@ -1,15 +1,12 @@
 // Plays document 01's examples and the fixed list of answers, data/calls, and prints how many calls there are and how many differ.
 #![tactic(auto)]
 
-ghost use Rattle.std.specs.Prelude.{◌≡◌, length, IfOk};
-
 mod call;
 mod examples;
-mod memory;
 
 use anyhow::{Context, Result};
 use call::{Asked, Cut};
-use cells::number_at;
+use played::{Broken, head, numbers, read_part};
 use std::io::Read;
 use std::{fs, io};
 
@@ -22,19 +19,6 @@ struct Record {
     area: usize,
     room: usize,
     answered: usize,
-}
-
-// The list ends too early, or a part of a record is longer than any should be.
-#[derive(Clone, Copy)]
-struct Broken;
-
-// Reads a part of a record.
-fn read_part<'a>(file: &mut impl Read, buf: &'a mut [u8], n: usize) -> Result<&'a [u8], Broken>
-    ensures { IfOk result (λ part. length part.now ≡ n) }
-{
-    let part = buf.get_mut(..n).ok_or(Broken)?;
-    file.read_exact(part).map_err(|_| Broken)?;
-    Ok(part)
 }
 
 // Plays a record whose numbers have been read, and tells whether it is answered as it should be.
@@ -51,27 +35,28 @@ fn play(file: &mut impl Read, r: Record) -> Result<bool, Broken> {
     let bytes = read_part(file, &mut bytes, r.length)?;
     let raw = read_part(file, &mut raw, 4 * r.listed)?;
     let answer = read_part(file, &mut answer, r.answered)?;
-    memory::numbers(raw, list);
+    numbers(raw, list);
     Ok(call::same(r.asked, bytes, list, work, out, answer))
 }
 
 // Reads the numbers of the next record and plays it.
 fn play_next(file: &mut impl Read) -> Result<bool, Broken> {
-    let mut head = [0u8; 28];
-    file.read_exact(&mut head).map_err(|_| Broken)?;
+    let mut raw = [0u8; 28];
+    file.read_exact(&mut raw).map_err(|_| Broken)?;
+    let [kind, length, listed, area, room, number, answered] = head::<7>(&raw);
     let asked = Asked {
-        cut: Cut::from(number_at::<4>(&head, 0)),
-        number: number_at::<4>(&head, 20),
+        cut: Cut::from(kind),
+        number,
     };
     play(
         file,
         Record {
             asked,
-            length: number_at::<4>(&head, 4) as usize,
-            listed: number_at::<4>(&head, 8) as usize,
-            area: number_at::<4>(&head, 12) as usize,
-            room: number_at::<4>(&head, 16) as usize,
-            answered: number_at::<4>(&head, 24) as usize,
+            length: length as usize,
+            listed: listed as usize,
+            area: area as usize,
+            room: room as usize,
+            answered: answered as usize,
         },
     )
 }
@@ -94,9 +79,9 @@ fn told(rt: &impl Print, count: u32, what: &str, differ: u32) -> io::Result<()> 
 
 fn main(rt: HostRuntime) -> Result<()> {
     let mut file = fs::open(&rt, "calls").context("calls")?;
-    let mut head = [0u8; 4];
-    file.read_exact(&mut head).context("calls")?;
-    let count = number_at::<4>(&head, 0);
+    let mut raw = [0u8; 4];
+    file.read_exact(&mut raw).context("calls")?;
+    let [count] = head::<1>(&raw);
     told(&rt, count, "calls", play_all(&mut file, count))?;
     told(&rt, examples::COUNT, "examples", examples::play())?;
     Ok(())
