@@ -50,7 +50,7 @@ fn offset_of(plan: Option<MapPlan>, at: usize) -> u32
 }
 
 // The offsets of the maps, which lie one after the other, the first at a place.
-pub fn put_offsets(out: &mut [u8], plans: &[Option<MapPlan>], first: usize)
+pub(crate) fn put_offsets(out: &mut [u8], plans: &[Option<MapPlan>], first: usize)
     requires { (length plans.now ≤ 4) × (length out.old ≡ 4 * length plans.now) × (first < 2 ^ 31 + 24) }
     ensures { out.new ≡ gather (λ m. offset_at plans.now first m) (length plans.now) }
 {

@@ -1,6 +1,6 @@
 -- From what the first pass found to the plan.
 use Prim.Native.Nat.{ℕ, ◌+◌, ◌*◌, ◌≤◌}
-use mathlib.Core.Path.{◌≡◌, sym, ◌∙◌}
+use mathlib.Core.Path.{◌≡◌, sym, ◌∙◌, refl}
 use mathlib.Core.Bool.{Bool, true, false, not}
 use mathlib.Core.List.{List, []}
 use native.Mathlib.Omega.{arith}
@@ -62,6 +62,7 @@ ready_of r pairs {w} {m} {used} {list} p f h i eu fu el small =
     let k : used ≡ rank (λ q. is_used s rs q) (region_count s)
     = eu ∙ rw r.region_count (rank_ext (has (used_in w)) (λ q. is_used s rs q) (region_count s) (λ q l. h.used q l)) in
     record {
+      source = refl;
       passed = record {
         pairs_fit = p;
         climb = f;

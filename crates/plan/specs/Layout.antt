@@ -26,6 +26,7 @@ pub record Passed (s pairs w : List ℕ) : Type 0 where
 
 -- so, and l is the layout, and w holds the subtables' lengths too
 pub record Ready (s pairs w : List ℕ) (l : Layout) : Type 0 where
+  pub source : l.regions.store.bytes.now ≡ s
   pub passed : Passed s pairs w
   pub few : l.count ≤ 256
   pub count : l.count ≡ length (runs pairs)
@@ -41,7 +42,7 @@ cut_runs s rs keep_empty = subtables_or s rs (checked_cut s rs keep_empty)
 
 -- the layout says what an outcome says
 abbrev pub LaidAs : Outcome → List ℕ → List ℕ → List ℕ → Result Layout Refusal → Type 0
-LaidAs o s pairs w (Ok l) = (o ≡ written (store_bytes s (runs pairs))) × Ready s pairs w l × (l.regions.store.bytes.now ≡ s)
+LaidAs o s pairs w (Ok l) = (o ≡ written (store_bytes s (runs pairs))) × Ready s pairs w l
 LaidAs o s pairs w (Err q) = o ≡ refused q
 
 -- the plan does; the null store has no layout

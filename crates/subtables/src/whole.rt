@@ -8,8 +8,8 @@ ghost use Rattle.subtables.specs.Kept.{Own, KeptWhole};
 
 use crate::Kept;
 use copies::copy_ahead;
-use readers::subtable::Subtable;
-use rows::column_at;
+use readers::subtable::{Shape, Subtable};
+use rows::{Columns, column_at};
 use rules::WorkArea;
 
 // Every column is kept where it stands, in a cell of its old size: each written row is one of the source.
@@ -36,19 +36,26 @@ fn source_from<'a>(t: &Subtable<'a>, item: usize) -> &'a [u8]
     &t.bytes[t.shape.rows + item * t.shape.row..]
 }
 
+pub fn is_whole(work: &WorkArea, t: Shape, p: Columns) -> bool
+    requires { t.columns ≤ 4096 }
+    ensures { result ≡ true → KeptWhole t work.now p.counts }
+{
+    let p = p.counts;
+    p.long == t.long
+        && p.wide == t.words
+        && p.wide + p.narrow == t.columns
+        && is_own(work, p.wide, t.columns)
+}
+
 impl<'a> Kept<'a> {
     pub fn whole(&self) -> Option<Whole<'a>>
         ensures { IfSome result (λ w. w.kept ≡ self.now) }
     {
-        let t = self.subtable.shape;
-        let p = self.columns.counts;
-        if p.long != t.long || p.wide != t.words || p.wide + p.narrow != t.columns {
-            return None;
+        if is_whole(self.work, self.subtable.shape, self.columns) {
+            Some(Whole { kept: *self })
+        } else {
+            None
         }
-        if !is_own(self.work, p.wide, t.columns) {
-            return None;
-        }
-        Some(Whole { kept: *self })
     }
 }
 

@@ -38,7 +38,7 @@ module _ (pairs w : List ℕ) where
 pub outcome_planned : (s pairs w : List ℕ) {found : List ℕ} → found ≡ pairs → (layout : Option Layout) → StorePlanned s found true w (Ok layout)
     → cut_opened s pairs true ≡ written (store_kept pairs layout)
 outcome_planned s pairs w same None p = rw (← same) p
-outcome_planned s pairs w same (Some l) p = (rw same at p.0) ∙ ap (λ (x : List ℕ). written (store_bytes x (runs pairs))) (sym p.2)
+outcome_planned s pairs w same (Some l) p = (rw same at p.0) ∙ ap (λ (x : List ℕ). written (store_bytes x (runs pairs))) (sym p.1.source)
 
 -- what is known of the store's layout stands in the first 9,088 numbers
 module _ (pairs w v : List ℕ) (same : take 9088 v ≡ take 9088 w) where
@@ -54,6 +54,7 @@ module _ (pairs w v : List ℕ) (same : take 9088 v ≡ take 9088 w) where
 
   still_ready : {s : List ℕ} {l : Layout} → Ready s pairs w l → Ready s pairs v l
   still_ready {l = l} r = record {
+    source = r.source;
     passed = still_passed r.passed;
     few = r.few;
     count = r.count;

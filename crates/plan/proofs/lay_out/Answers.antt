@@ -1,4 +1,4 @@
-use mathlib.Core.Path.{refl, sym, ◌∙◌}
+use mathlib.Core.Path.{sym, ◌∙◌}
 use native.Mathlib.Omega.{arith}
 use lib.ListN.{length-take}
 use Rattle.laws.specs.Inside.{regions_inside}
@@ -30,5 +30,4 @@ returns c =
     let l = length-take c.args.n c.args.work.now in (
       gives_bytes h c.args.keep (sym c.nothing_kept.ensures ∙ c.if-nothing_kept.false) i c.if-m-2.false,
       ready_of c.args.regions.now _ (omega arith) c.requires.work_value h i k.0 k.1 c.list_length.ensures.0 c.list_length.ensures.1,
-      refl,
     )

@@ -31,11 +31,11 @@ pub put_store-requires-clause-ready : goal.put_store-requires-clause-ready
 put_store-requires-clause-ready c =
     let p = rw c.in-Some.is at c.in_ok-layout.ensures.store_planned in
     let e = front_same c.plan_store.new.work c.args.work.now 8704 c.plan_store.ensures.work_unchanged c.args.n (omega arith) in
-    simp p.2 (rw e p.1)
+    simp p.1.source (rw e p.1)
 
 pub returns : goal.returns
 returns c =
     let p = rw c.in-Some.is at c.in_ok-layout.ensures.store_planned in
     let e = front_same c.plan_store.new.work c.args.work.now 8704 c.plan_store.ensures.work_unchanged c.args.n (omega arith) in
-    let b = rw (p.2, e) at c.put_store.ensures in
+    let b = rw (p.1.source, e) at c.put_store.ensures in
     fit_written _ p.0 p.1.whole (omega arith) (put_next c.args.out.now [] _ 0 c.in-Some.layout.length refl refl (omega arith) b refl)
