@@ -1,4 +1,5 @@
-// Document 01's numbers for the answers of the calls below: what the crate `binlariat_c` exports to C. Nothing is decided here.
+// Document 01's numbers for the answers of the calls below: what the crate `binlariat_c` exports to C, which tells a
+// number and fills in the places that it is lent. Nothing is decided here.
 #![tactic(auto)]
 
 ghost use Rattle.std.specs.Prelude.{◌≡◌, MatchResult};

@@ -21,7 +21,7 @@ pub struct KeptPairs<'a> {
     pub ghost numbered: { Numbered work.now count } by { Numbered-prop work.now count },
 }
 
-// The segment that a pair would begin behind the last one: in the same outer, that is the second of outer 0.
+// The segment that a pair would begin behind the last one: in the same outer, that is the second of outer 0, which stands behind those of all outers.
 fn segment_at(last: u32, pair: u32) -> usize
     requires { outer pair < 256 }
     ensures { result ≤ 256 }

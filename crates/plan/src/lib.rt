@@ -98,7 +98,8 @@ fn plan_runs<'a>(
     lay_out(work, regions, n, m, keep)
 }
 
-// What follows 3: the checks, and the sizes, for the first n pairs of the work area. A null store has no layout.
+// What follows 3: the checks, and the sizes, for the first n pairs of the work area: they are no slice beside it, as the rest of the one lent area is written
+// meanwhile. A null store has no layout.
 pub fn plan_store<'a>(
     work: &mut WorkArea,
     s: &Store<'a>,

@@ -75,7 +75,7 @@ impl<'a> Whole<'a> {
         }
     }
 
-    // Writes the rows of the pairs' items.
+    // Writes the rows of the pairs' items. A turn is lent all that is left of the output, as it may write past its row: so the loop isn't that of the rows by cell.
     pub fn put_rows(&self, out: &mut [u8], pairs: &[u32])
         requires { length out.old ≡ length pairs.now * row_of self.now.kept.columns.counts }
         ensures { out.new ≡ flat (λ i. new_row self.now.kept i) (items pairs.now) }

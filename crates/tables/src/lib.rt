@@ -154,6 +154,7 @@ fn cut_table(t: &[u8], glyphs: &[u32], maps: usize, work: &mut [u32], out: &mut 
     answer
 }
 
+// Two calls over one body: callers and the C interface name both.
 pub fn cut_hvar(table: &[u8], glyphs: &[u32], work: &mut [u32], out: &mut [u8]) -> Answer
     ensures { Promise (cut_hvar table.now glyphs.now)
         work.old out.old result work.new out.new }

@@ -3,7 +3,6 @@ use borrow.Author.Tests.{le-ltb}
 use Rattle.lists.specs.Pick.{chain}
 use Rattle.opentype.specs.Store.{regions_at, axis_count, region_count, record_length}
 use Rattle.rules.specs.Open.{bad_regions}
-use Rattle.laws.specs.Inside.{store_inside}
 use Rattle.readers.proofs.Fits.{records_fit}
 use Rattle.readers.proofs.store.Store.bad_regions.Goals as goal
 

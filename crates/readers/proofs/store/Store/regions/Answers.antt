@@ -1,6 +1,6 @@
 use Rattle.std.proofs.Common.{arith, refl, sym, ◌∙◌}
 use Rattle.opentype.specs.Store.{regions_at, axis_count, region_count}
-use Rattle.laws.specs.Inside.{store_inside, regions_inside}
+use Rattle.laws.specs.Inside.{regions_inside}
 use Rattle.readers.proofs.store.Store.regions.Goals as goal
 
 pub returns-then-at-eq0 : goal.returns-then-at-eq0
