@@ -4,7 +4,7 @@
 
 ghost use Rattle.std.specs.Prelude.{◌≡◌, MatchResult};
 ghost use Rattle.lists.specs.Pick.{differ};
-ghost use Rattle.rules.specs.Numbers.{number_of, number_of_answer, length_of_answer};
+ghost use Rattle.rules.specs.Numbers.{number_of};
 ghost use Rattle.rules.specs.StoreCut.{cut_store};
 ghost use Rattle.rules.specs.TableCut.{cut_hvar, cut_vvar};
 ghost use Rattle.rules.specs.Readers.{delta_of, number_of_delta, value_of_delta, entry_of, number_of_entry, outer_of_entry, inner_of_entry};

@@ -3,12 +3,10 @@
 
 ghost use Rattle.std.specs.Prelude.{◌≡◌, ◌+◌, ◌≤◌, ◌<◌, ◌^◌, length};
 ghost use Rattle.std.specs.Int.Signed.{mag as magnitude};
-ghost use Rattle.std.specs.Int.{w32};
-ghost use Rattle.std.proofs.Common.{of_z};
 ghost use Rattle.cells.specs.Be.{be_bytes, Cell, Wrote};
-ghost use Rattle.cells.specs.Sign.{sign, signed_at, signed_bytes, Size};
+ghost use Rattle.cells.specs.Sign.{sign, signed_at, Size};
 
-// The number in the N bytes from `at` on.
+// The number in the N bytes from `at` on: one function over the width, as an entry has 3 bytes too, for which the library has no type.
 pub fn number_at<const N: usize>(s: &[u8], at: usize) -> u32
     requires few { N ≤ 4 }
     requires in_bounds { at + N ≤ length s.now }
@@ -60,7 +58,7 @@ pub fn put_entry(out: &mut [u8], at: usize, size: usize, v: u32)
     }
 }
 
-// The number `u` of a cell, as two's complement with the sign at `half`. `!` crosses the sign without leaving 32 bits,
+// The number `u` of a cell of any width, as two's complement with the sign at `half`. `!` crosses the sign without leaving 32 bits,
 // at the least number too.
 pub fn signed(u: u32, half: u32) -> i32
     requires { (half ≤ 2 ^ 31) × (u < half + half) }
@@ -84,20 +82,6 @@ pub fn cell(s: &[u8], at: usize, size: usize) -> i32
         signed(number_at::<2>(s, at), 32768)
     } else {
         signed(number_at::<4>(s, at), 2147483648)
-    }
-}
-
-pub fn put_cell(out: &mut [u8], at: usize, size: usize, v: i32)
-    requires size { Size size }
-    requires size_in_bounds { at + size ≤ length out.old }
-    ensures { Wrote out.old at (signed_bytes size v) out.new }
-{
-    if size == 1 {
-        put_number::<1>(out, at, v.cast_unsigned());
-    } else if size == 2 {
-        put_number::<2>(out, at, v.cast_unsigned());
-    } else {
-        put_number::<4>(out, at, v.cast_unsigned());
     }
 }
 

@@ -1,6 +1,7 @@
 // The tally of a column: how large its kept deltas are.
 ghost use Rattle.std.specs.Prelude.{◌≡◌, map, max, eqb};
 ghost use Rattle.lists.specs.Pick.{pick};
+ghost use Rattle.cells.specs.Sign.{Size as CellSize};
 ghost use Rattle.rules.specs.Lists.{inner};
 ghost use Rattle.rules.specs.Columns.{kept_deltas};
 ghost use Rattle.laws.specs.Sizes.{size, column_size};
@@ -40,12 +41,6 @@ pub fn size_of(delta: i32) -> Size
     }
 }
 
-pub fn number(size: Size) -> u32
-    ensures { result ≡ number_of_size size }
-{
-    size as u32
-}
-
 impl Column {
     pub fn take(mut self, delta: i32) -> Column
         ensures { number_of_size result.size ≡ max (number_of_size self.size) (size delta) }
@@ -55,12 +50,17 @@ impl Column {
     }
 }
 
-// The number of the size at which a column's tally may end, by the bytes of its cells. A cell of 1, 2 or 4 bytes holds no delta of a
-// larger size than number 1, 2 or 4; and where long is kept, a column of cells of 2 bytes is narrow for any delta but 0.
-fn enough(long: bool, cell: usize) -> usize
-    ensures { result ≡ pick long (pick (eqb cell 2) 1 cell) cell }
+// The size at which a column's tally may end, by the bytes of its cells: a cell holds no delta of a larger size; and where long is
+// kept, a column of cells of 2 bytes is narrow for any delta but 0.
+fn enough(long: bool, cell: usize) -> Size
+    requires { CellSize cell }
+    ensures { number_of_size result ≡ pick long (pick (eqb cell 2) 1 cell) cell }
 {
-    if long && cell == 2 { 1 } else { cell }
+    match cell {
+        1 => Size::Byte,
+        2 => if long { Size::Byte } else { Size::Short },
+        _ => Size::Far,
+    }
 }
 
 // The kept deltas of a column, tallied one after the other until the column is decided.
@@ -73,7 +73,7 @@ pub fn column_size(t: &Subtable<'_>, pairs: &[u32], column: usize, long: bool) -
     for pair in pairs {
         let item = (*pair % 65536) as usize;
         tally = tally.take(t.delta(item, column));
-        if number(tally.size) as usize >= end {
+        if tally.size >= end {
             break;
         }
     }

@@ -20,7 +20,7 @@ fn put_version(out: &mut [u8], t: &[u8])
     out[..4].copy_from_slice(&t[..4]);
 }
 
-// The maps start at `first`, behind the store
+// The maps start at `first`, behind the store.
 pub fn put_header(out: &mut [u8], sources: &Sources<'_>, plans: &[Option<MapPlan>], first: usize)
     requires maps_bound { (sources.now.maps ≤ 4) × (length out.old ≡ 8 + 4 * sources.now.maps) × (first < 2 ^ 31 + 24) }
     requires as_many { length plans.now ≡ sources.now.maps }

@@ -8,7 +8,7 @@ ghost use Rattle.rows.specs.Area.{part, items};
 ghost use Rattle.measure.specs.Measured.{NoneUsed, with_subtable, Step, Fits, Measuring};
 
 use pairs::Climbing;
-use readers::store::Store;
+use readers::store::Regions;
 use readers::subtable::Subtable;
 use rows::{Columns, mark_regions, plan_columns};
 use rules::{Refusal, WorkArea};
@@ -70,24 +70,22 @@ pub fn clear_used(work: &mut WorkArea)
 // 5 and 6 for each used subtable in turn; the sizes, and what 7, 8 and 9 ask.
 pub fn measure_runs(
     work: &mut WorkArea,
-    s: &Store<'_>,
+    regions: &Regions<'_>,
     n: usize,
-    regions: usize,
 ) -> Result<Measure, Refusal>
     requires n_bound { n ≤ 8192 }
-    requires regions_value { (regions ≡ region_count s.now.bytes.now) × (regions ≤ 4096) }
     requires none_used { NoneUsed work.old × (outers_fall (take n work.old) ≡ false) }
-    ensures measuring { Measuring s.now.bytes.now (take n work.old) work.new result }
+    ensures measuring { Measuring regions.now.store.bytes.now (take n work.old) work.new result }
     ensures work_unchanged { take 8704 work.new ≡ take 8704 work.old }
 {
     let mut m = Measure::default();
     let mut at = 0;
-    // A turn goes on where its run ends, and no iterator lends the runs: the turn writes to the numbers that hold them.
+    // A turn goes on where its run ends, and is lent the whole area, pairs and all: so no iterator can hold the runs meanwhile.
     while at < n {
         let pairs = Climbing { pairs: &work[..n] };
         let end = pairs.end_of_run(at);
-        let t = s.subtable((work[at] / 65536) as usize)?;
-        m = measure_run(work, &t, m, at, end, regions);
+        let t = regions.store.subtable((work[at] / 65536) as usize)?;
+        m = measure_run(work, &t, m, at, end, regions.count);
         at = end;
     }
     Ok(m)

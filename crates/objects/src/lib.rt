@@ -118,7 +118,7 @@ pub fn put_subtables(out: &mut [u8], work: &mut WorkArea, s: &Store<'_>, n: usiz
     let mut next = 0;
     let mut at = 0;
     let mut k = 0;
-    // A turn goes on where its run ends, and no iterator lends the runs: the turn writes to the numbers that hold them.
+    // A turn goes on where its run ends, and is lent the whole area, pairs and all: so no iterator can hold the runs meanwhile.
     while at < n {
         let pairs = Climbing { pairs: &work[..n] };
         let end = pairs.end_of_run(at);

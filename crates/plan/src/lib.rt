@@ -94,12 +94,12 @@ fn plan_runs<'a>(
     ensures work_unchanged { take 8704 work.new ≡ take 8704 work.old }
 {
     clear_used(work);
-    let m = measure_runs(work, &regions.store, n, regions.count)?;
+    let m = measure_runs(work, regions, n)?;
     lay_out(work, regions, n, m, keep)
 }
 
-// What follows 3: the checks, and the sizes, for the first n pairs of the work area: they are no slice beside it, as the rest of the one lent area is written
-// meanwhile. A null store has no layout.
+// What follows 3: the checks, and the sizes, for the first n pairs of the work area. It is lent whole, with n beside it: its parts stand at fixed places, and hold
+// one thing after the other. A null store has no layout.
 pub fn plan_store<'a>(
     work: &mut WorkArea,
     s: &Store<'a>,

@@ -41,7 +41,7 @@ fn delta(
     differs(rt, "delta", outer, inner, column)
 }
 
-// The row reader, that number and that part.
+// The row reader, that number and that part: it hands the number back beside the part.
 fn row(
     rt: &impl Print,
     store: &[u8],

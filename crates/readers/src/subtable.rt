@@ -1,7 +1,7 @@
 // A subtable: opened, and its cells read.
 ghost use Rattle.std.specs.Prelude.{◌≡◌, false, ◌≤◌, ◌<◌, ◌^◌, [], leb};
 ghost use Rattle.lists.specs.Pick.{pick};
-ghost use Rattle.rules.specs.Open.{bad_store, absent_subtable, bad_subtable};
+ghost use Rattle.rules.specs.Open.{absent_subtable, bad_subtable};
 ghost use Rattle.opentype.specs.Store.{subtable_at};
 ghost use Rattle.opentype.specs.Subtable.{region_index, length_of_row, cell_at, cell_size, row, delta};
 ghost use Rattle.readers.specs.Opened.{Opened};
@@ -87,7 +87,7 @@ fn bad_subtable(s: &[u8], at: usize) -> bool
 }
 
 impl<'a> Store<'a> {
-    ghost use Rattle.readers.specs.Opening.{Whole, Usable, Opening};
+    ghost use Rattle.readers.specs.Opening.{Whole, Opening};
 
     // 5, then 6
     pub fn subtable(&self, outer: usize) -> Result<Subtable<'a>, Refusal>

@@ -11,7 +11,7 @@ pub enum Cut {
     Vvar,
 }
 
-// The kind of a record, as data/README.md names it.
+// The kind of a record, as data/README.md names it; any other number is a plain cut of a store.
 impl From<u32> for Cut {
     fn from(kind: u32) -> Cut {
         match kind {

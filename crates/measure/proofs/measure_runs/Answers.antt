@@ -6,6 +6,7 @@ use lib.ListN.{length, take}
 use Rattle.std.proofs.lemmas.Result.{err_from_is_err_and}
 use Rattle.rules.specs.Lists.{outers_fall}
 use Rattle.lists.proofs.Cuts.{front_same}
+use Rattle.laws.specs.Inside.{regions_inside}
 use Rattle.pairs.proofs.Laws.{front_end}
 use Rattle.measure.proofs.Steps.{Nothing, turn_first, turn_refused, turn_few, turn_more, turn_end}
 use Rattle.measure.proofs.measure_runs.Goals as goal
@@ -28,10 +29,15 @@ returns-in_err-t-clause-measuring c =
     let p = err_from_is_err_and c.from_residual.result c.from_residual.ensures.1 in
     rw (p.1, p.2) (rw e at (turn_refused (omega arith) l.invariant.turn (front_end (omega arith) c.end_of_run-end.ensures) c.in_err-t.ensures))
 
+pub measure_run-m-requires-clause-regions_value : goal.measure_run-m-requires-clause-regions_value
+measure_run-m-requires-clause-regions_value c =
+    let r = c.args.regions.now in
+    (rw c.in_ok-t.ensures.0 r.region_count, omega (arith, r.region_count, (regions_inside _ r.sound).few))
+
 pub measure_run-m-requires-clause-fits : goal.measure_run-m-requires-clause-fits
 measure_run-m-requires-clause-fits c =
     let l = c.loop-at in
-    (l.invariant.turn.fits, turn_few (omega arith) l.invariant.turn (front_end (omega arith) c.end_of_run-end.ensures) c.args.s.now.sound c.in_ok-t.ensures.1)
+    (l.invariant.turn.fits, turn_few (omega arith) l.invariant.turn (front_end (omega arith) c.end_of_run-end.ensures) c.args.regions.now.store.sound c.in_ok-t.ensures.1)
 
 pub loop-at-preserved : goal.loop-at-preserved
 loop-at-preserved c =
@@ -45,7 +51,7 @@ loop-at-preserved c =
       area = m.array_long;
       low = step.low ∙ l.invariant.low;
       turn = rw (front_same m.new.work l.work 8704 step.low n (omega arith))
-          (turn_more (omega arith) l.invariant.turn (front_end (omega arith) c.end_of_run-end.ensures) c.args.s.now.sound f t.1 step m.ensures.fits_after);
+          (turn_more (omega arith) l.invariant.turn (front_end (omega arith) c.end_of_run-end.ensures) c.args.regions.now.store.sound f t.1 step m.ensures.fits_after);
     }
 
 pub returns-clause-measuring : goal.returns-clause-measuring

@@ -8,7 +8,7 @@ abbrev pub invariant-loop-at : goal.invariant-loop-at
 invariant-loop-at l = record {
   area : length l.work ≡ 16384;
   low : take 8704 l.work ≡ take 8704 l.initial.work;
-  turn : Turn l.s.bytes.now (take l.n l.work) l.work l.m l.at;
+  turn : Turn l.regions.store.bytes.now (take l.n l.work) l.work l.m l.at;
 }
 
 abbrev pub decreases-loop-at : goal.decreases-loop-at

@@ -5,14 +5,8 @@ use Rattle.std.proofs.lemmas.Result.{err_from_is_err_and}
 use Rattle.rules.specs.Lists.{runs}
 use Rattle.rules.specs.StoreCut.{checked_cut}
 use Rattle.lists.proofs.Cuts.{front_same}
-use Rattle.laws.specs.Inside.{regions_inside}
 use Rattle.plan.proofs.Plans.{plan_whole}
 use Rattle.plan.proofs.plan_runs.Goals as goal
-
-pub measure_runs-requires-clause-regions_value : goal.measure_runs-requires-clause-regions_value
-measure_runs-requires-clause-regions_value c =
-    let r = c.args.regions.now in
-    (r.region_count, omega (arith, r.region_count, (regions_inside _ r.sound).few))
 
 pub measure_runs-requires-clause-none_used : goal.measure_runs-requires-clause-none_used
 measure_runs-requires-clause-none_used c =
