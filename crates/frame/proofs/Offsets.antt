@@ -1,6 +1,7 @@
 -- The offsets of the maps: what the loop has written so far, and that it is what the rules say.
 use Prim.Native.Nat.{ℕ, zero, suc, ◌+◌, ◌*◌, ◌≤◌}
 use mathlib.Core.Path.{◌≡◌, refl, sym, ◌∙◌}
+use mathlib.Core.Bool.{Bool}
 use mathlib.Core.List.{List, [], ◌∷◌, ◌++◌, append_assoc, append-nil}
 use native.Mathlib.Omega.{arith}
 use native.Mathlib.Numerals.{add-one}
@@ -31,7 +32,7 @@ length-offsets plans first k = gather-length (λ m. offset_at plans first m) 4 (
 -- the offsets of the first k maps are written over old, and the next map is at a place
 pub record Offsets (plans : List (Option MapPlan)) (first : ℕ) (old : List ℕ) (k at : ℕ) (out : List ℕ) : Type 0 where
   pub place : at ≡ first + lengths plans k
-  pub short : lengths plans k ≤ 262144 * k
+  pub short : lengths plans k ≤ 393214 * k
   pub wrote : Wrote old 0 (gather (λ m. offset_at plans first m) k) out
 
 pub offsets_none : (plans : List (Option MapPlan)) (first : ℕ) (old : List ℕ) → Offsets plans first old 0 first old
@@ -39,7 +40,7 @@ unfolding lengths
 offsets_none plans first old = record { place = omega arith; short = omega arith; wrote = record { is = rw gather_none } }
 
 pub offsets_more : {plans : List (Option MapPlan)} {first : ℕ} {old : List ℕ} {k at : ℕ} {out out' : List ℕ} {v n : ℕ} → Offsets plans first old k at out
-    → Wrote out (4 * k) (be_bytes 4 v) out' → v ≡ place_of (plan_at plans k) at → n ≡ length_of (plan_at plans k) → n ≤ 262144
+    → Wrote out (4 * k) (be_bytes 4 v) out' → v ≡ place_of (plan_at plans k) at → n ≡ length_of (plan_at plans k) → n ≤ 393214
     → Offsets plans first old (k + 1) (at + n) out'
 unfolding lengths
 offsets_more {plans} {first} {k = k} done w v l small =
@@ -74,7 +75,7 @@ offsets_behind at (x ∷ xs) part =
     let e : at + length x + length (flat (λ p. p) xs) ≡ at + length (x ++ flat (λ p. p) xs) = rw length-append (omega arith) in
     rw (offsets_behind (at + length x) xs part, append_assoc, e)
 
-module _ {maps : ℕ} {t es : List ℕ} {plans : List (Option MapPlan)} {total n : ℕ} (h : MapsPlanned maps t es plans total n) where
+module _ {maps : ℕ} {t es : List ℕ} {plans : List (Option MapPlan)} {wide : Bool} {total n : ℕ} (h : MapsPlanned maps t es plans wide total n) where
   lengths_are : (k : ℕ) → k ≤ n → lengths plans k ≡ length (gather (λ m. part_at maps t es m) k)
   unfolding lengths gather
   lengths_are zero l = refl

@@ -1,6 +1,6 @@
 -- The plans of a table's maps, and what stands when they are made and written.
 -- maps is how many maps the table t has, es are the glyph entries, n is how many kept pairs stand in the work area w.
-use Rattle.std.specs.Prelude.{ℕ, zero, suc, ◌+◌, ◌*◌, ◌<◌, ◌≤◌, ◌≡◌, false, List, length, get_or, take, Option, Some, None}
+use Rattle.std.specs.Prelude.{ℕ, zero, suc, ◌+◌, ◌*◌, ◌<◌, ◌≤◌, ◌≡◌, Bool, List, length, get_or, take, Option, Some, None}
 use Rattle.lists.specs.Gather.{gather}
 use Rattle.lists.specs.Search.{some}
 use Rattle.cells.specs.Be.{be_bytes}
@@ -44,11 +44,11 @@ place_of (Some p) at = at
 abbrev pub offset_at : List (Option MapPlan) → ℕ → ℕ → List ℕ
 offset_at plans first m = be_bytes 4 (place_of (plan_at plans m) (first + lengths plans m))
 
--- The first k maps are planned: each has its plan, none needs more than 4 bytes an entry (14), and total is how many bytes they have. A map
--- has at most 4 + 65,535 × 4.
-pub record MapsPlanned (maps : ℕ) (t es : List ℕ) (plans : List (Option MapPlan)) (total k : ℕ) : Type 0 where
+-- The first k maps are planned: each has its plan, wide says whether one of them needs more than 4 bytes an entry (14), and total is how
+-- many bytes they have. A map has at most 4 + 65,535 × 6.
+pub record MapsPlanned (maps : ℕ) (t es : List ℕ) (plans : List (Option MapPlan)) (wide : Bool) (total k : ℕ) : Type 0 where
   pub count : length plans ≡ k
   pub each : (m : ℕ) → m < k → MapPlanned t (kept_runs maps t es) es m (plan_at plans m)
-  pub entries : some (λ m. wide_entry t (kept_runs maps t es) es m) k ≡ false
+  pub entries : wide ≡ some (λ m. wide_entry t (kept_runs maps t es) es m) k
   pub bytes : total ≡ length (gather (λ m. part_at maps t es m) k)
-  pub short : total ≤ 262144 * k
+  pub short : total ≤ 393214 * k

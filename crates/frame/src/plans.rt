@@ -1,45 +1,52 @@
 // The maps of a table: their plans, their offsets in the header, and their bytes one after the other.
-ghost use Rattle.std.specs.Prelude.{◌≡◌, true, ◌+◌, ◌*◌, ◌≤◌, ◌<◌, ◌^◌, length, take, MatchResult};
+ghost use Rattle.std.specs.Prelude.{◌≡◌, false, ◌+◌, ◌*◌, ◌≤◌, ◌<◌, ◌^◌, ltb, length, take};
+ghost use Rattle.maps.specs.Plans.{size_of};
 ghost use Rattle.lists.specs.Gather.{gather};
-ghost use Rattle.lists.specs.Search.{some};
-ghost use Rattle.rules.specs.declared.Refusal.{Refusal};
-ghost use Rattle.rules.specs.Maps.{wide_entry};
-ghost use Rattle.frame.specs.Plans.{Collected, place_of, offset_at, MapsPlanned, kept_runs, part_at};
+ghost use Rattle.frame.specs.Plans.{Collected, place_of, offset_at, MapsPlanned, part_at};
 
 use maps::limit::inner_limit;
 use maps::plan::MapPlan;
 use maps::{map_length, plan_map, put_map};
 use numbering::KeptPairs;
-use rules::Refusal;
 use sources::named::Sources;
 
-// The plans of at most four maps, and the bytes of all.
+// The plans of at most four maps; whether one needs more than 4 bytes an entry; the bytes of all.
 #[derive(Drop)]
 pub struct Plans {
     pub plans: [Option<MapPlan>; 4],
+    pub wide: bool,
     pub length: usize,
 }
 
-// 14
-pub fn plan_maps(
-    kept: &KeptPairs<'_>,
-    sources: &Sources<'_>,
-    glyphs: &[u32],
-) -> Result<Plans, Refusal>
+// 14, of one map
+fn is_wide(plan: Option<MapPlan>) -> bool
+    ensures { result ≡ ltb 4 (size_of plan) }
+{
+    match plan {
+        Some(p) => p.size > 4,
+        None => false,
+    }
+}
+
+pub fn plan_maps(kept: &KeptPairs<'_>, sources: &Sources<'_>, glyphs: &[u32]) -> Plans
     requires { Collected sources.now.maps sources.now.table.now glyphs.now kept.now.count kept.now.work.now }
-    ensures { MatchResult result
-        (λ p. MapsPlanned sources.now.maps sources.now.table.now glyphs.now (take sources.now.maps p.plans) p.length sources.now.maps)
-        (λ r. (r ≡ Refusal.WideEntry) × (some (λ m. wide_entry sources.now.table.now (kept_runs sources.now.maps sources.now.table.now glyphs.now) glyphs.now m) sources.now.maps ≡ true)) }
+    ensures { MapsPlanned sources.now.maps sources.now.table.now glyphs.now (take sources.now.maps result.plans) result.wide result.length sources.now.maps }
 {
     let limit = inner_limit(kept);
     let mut plans = [None; 4];
+    let mut wide = false;
     let mut length = 0;
     for m in 0..sources.maps {
-        let plan = plan_map(kept, sources, m, glyphs, limit)?;
+        let plan = plan_map(kept, sources, m, glyphs, limit);
+        wide |= is_wide(plan);
         length += map_length(plan);
         plans[m] = plan;
     }
-    Ok(Plans { plans, length })
+    Plans {
+        plans,
+        wide,
+        length,
+    }
 }
 
 fn offset_of(plan: Option<MapPlan>, at: usize) -> u32
@@ -69,7 +76,7 @@ pub fn put_maps(
     plans: &[Option<MapPlan>],
 )
     requires collected { Collected sources.now.maps sources.now.table.now glyphs.now kept.now.count kept.now.work.now }
-    requires planned { MapsPlanned sources.now.maps sources.now.table.now glyphs.now plans.now (length out.old) sources.now.maps }
+    requires planned { MapsPlanned sources.now.maps sources.now.table.now glyphs.now plans.now false (length out.old) sources.now.maps }
     ensures { out.new ≡ gather (λ m. part_at sources.now.maps sources.now.table.now glyphs.now m) sources.now.maps }
 {
     let mut at = 0;

@@ -1,5 +1,5 @@
 -- The bytes of a map as they are written, and the length of what a plan asks for.
-use Prim.Native.Nat.{ℕ, ◌+◌, ◌*◌, ◌%◌, ◌^◌, ◌<◌}
+use Prim.Native.Nat.{ℕ, ◌+◌, ◌*◌, ◌%◌, ◌^◌, ◌<◌, ◌≤◌}
 use mathlib.Core.Path.{◌≡◌, refl, sym, ap, ◌∙◌}
 use mathlib.Core.Bool.{false}
 use mathlib.Core.List.{List, [], ◌++◌, map}
@@ -9,7 +9,7 @@ use native.Mathlib.Nat.{lt_of_lt_of_le, suc-mul}
 use lib.Pow.{pow_mono}
 use lib.ListN.{length, get_or}
 use lib.Seq.{length-sets}
-use borrow.Author.Tests.{le-ltb}
+use lib.Dec.{ltb}
 use Rattle.std.specs.Prelude.{Option, Some, None}
 use Rattle.lists.specs.Gather.{gather}
 use Rattle.lists.proofs.Pieces.{gather_none, gather_more, gather-length}
@@ -28,7 +28,7 @@ use Rattle.laws.specs.Packed.{map-length}
 use Rattle.readers.proofs.Maps.{shifted_one}
 use Rattle.numbering.specs.Numbered.{Numbered}
 use Rattle.maps.specs.declared.plan.MapPlan.{MapPlan}
-use Rattle.maps.specs.Plans.{kept_in, head_of, entry_piece, entries_of, Ready, EntriesFit, Planned, MapPlanned, length_of}
+use Rattle.maps.specs.Plans.{kept_in, head_of, entry_piece, entries_of, Ready, EntriesFit, Planned, MapPlanned, size_of, length_of}
 use Rattle.maps.proofs.Plans.{kept_at, packs}
 use Rattle.maps.proofs.Ahead.{Ahead, ahead_none, Turn}
 
@@ -80,20 +80,20 @@ module _ (t : List ℕ) (rs : List Run) (es : List ℕ) (m : ℕ) where
   plan_length_lem None off = rw off
   plan_length_lem (Some p) d = rw (d.written, d.count, d.size) (sym (map-length t rs es m (map_plan t rs es m)))
 
-  -- 14 is not given
-  pub plan_narrow : (plan : Option MapPlan) → MapPlanned t rs es m plan → wide_entry t rs es m ≡ false
+  -- 14
+  pub plan_wide : (plan : Option MapPlan) → MapPlanned t rs es m plan → ltb 4 (size_of plan) ≡ wide_entry t rs es m
   unfolding wide_entry
-  plan_narrow None off = rw off
-  plan_narrow (Some p) d = rw (d.written, ← d.size) (le-ltb _ _ p.bytes.1)
+  plan_wide None off = rw off
+  plan_wide (Some p) d = rw (d.written, d.size)
 
 -- ---- a written map
 
 module _ {n : ℕ} {w t es : List ℕ} {m : ℕ} {p : MapPlan} (r : Ready n w t es m) (d : Planned t (kept_in n w) es m p) (pair : ℕ → ℕ) (e : pair ≡ pair_of t m) where
-  pub fits : Numbered w n → ((i : ℕ) → get_or t i 0 < 256) → both (present t m) (bad_map t (map_at t m)) ≡ false → EntriesFit n w pair es p.bits
-  fits k bytes sound =
+  pub fits : p.size ≤ 4 → Numbered w n → ((i : ℕ) → get_or t i 0 < 256) → both (present t m) (bad_map t (map_at t m)) ≡ false → EntriesFit n w pair es p.bits
+  fits short k bytes sound =
       let q = packs r d.written k bytes sound in
       let size : ℕ = entry_size (map_plan t (kept_in n w) es m) in
-      let room = pow_mono {i = 8 * size} {j = 32} (omega (arith, d.size, p.bytes.1)) in
+      let room = pow_mono {i = 8 * size} {j = 32} (omega (arith, d.size)) in
       record {
         kept = kept_at r d.written pair e;
         rise = r.glyphs.rise;

@@ -61,6 +61,11 @@ abbrev pub MapPlanned : List ℕ → List Run → List ℕ → ℕ → Option Ma
 MapPlanned t rs es m None = is_written t es m ≡ false
 MapPlanned t rs es m (Some p) = Planned t rs es m p
 
+-- the bytes of an entry; none for a map that is not written
+abbrev pub size_of : Option MapPlan → ℕ
+size_of None = 0
+size_of (Some p) = p.size
+
 -- the bytes of a map with the plan
 abbrev pub length_of : Option MapPlan → ℕ
 length_of None = 0

@@ -1,14 +1,13 @@
 // The maps of a cut table: each one's plan, and its bytes written into a lent part of the output.
 #![tactic(auto)]
 
-ghost use Rattle.std.specs.Prelude.{◌≡◌, true, ◌+◌, ◌*◌, ◌-◌, ◌^◌, ◌≤◌, ◌<◌, ltb, eqb, length, get_or, take, MatchOption, MatchResult};
+ghost use Rattle.std.specs.Prelude.{◌≡◌, true, ◌+◌, ◌*◌, ◌-◌, ◌^◌, ◌≤◌, ◌<◌, ltb, eqb, length, get_or, take, MatchOption};
 ghost use Rattle.lists.specs.Pick.{both};
 ghost use Rattle.lists.specs.Search.{member};
 ghost use Rattle.cells.specs.Be.{Wrote};
 ghost use Rattle.opentype.specs.Map.{outer_bits};
 ghost use Rattle.rules.specs.Lists.{new_id, old_id};
-ghost use Rattle.rules.specs.declared.Refusal.{Refusal};
-ghost use Rattle.rules.specs.Maps.{count_of, bits_for, wide_entry, new_entry, map_bytes};
+ghost use Rattle.rules.specs.Maps.{count_of, bits_for, new_entry, map_bytes};
 ghost use Rattle.sources.specs.Pairs.{pair_in};
 ghost use Rattle.maps.specs.Plans.{kept_in, largest_of, head_of, entries_of, Kept, Ready, EntriesFit, Bounds, Planned, MapPlanned, length_of};
 
@@ -17,7 +16,6 @@ pub mod plan;
 
 use numbering::KeptPairs;
 use plan::MapPlan;
-use rules::Refusal;
 use sources::named::{Source, Sources};
 
 // The pair of a listed glyph as one number.
@@ -82,36 +80,31 @@ fn outer_bits(source: &Source<'_>) -> usize
     }
 }
 
-// Another absent map is not written; empty list: no map written. 14
+// Another absent map is not written; empty list: no map written.
 pub fn plan_map(
     kept: &KeptPairs<'_>,
     sources: &Sources<'_>,
     m: usize,
     glyphs: &[u32],
     limit: u32,
-) -> Result<Option<MapPlan>, Refusal>
+) -> Option<MapPlan>
     requires m_bound { m < sources.now.maps }
     requires ready { Ready kept.now.count kept.now.work.now sources.now.table.now glyphs.now m }
     requires bounds { Bounds kept.now.count kept.now.work.now limit }
-    ensures { MatchResult result
-        (λ plan. MapPlanned sources.now.table.now (kept_in kept.now.count kept.now.work.now) glyphs.now m plan)
-        (λ r. (r ≡ Refusal.WideEntry) × (wide_entry sources.now.table.now (kept_in kept.now.count kept.now.work.now) glyphs.now m ≡ true)) }
+    ensures { MapPlanned sources.now.table.now (kept_in kept.now.count kept.now.work.now) glyphs.now m result }
 {
     let source = sources.source(m);
     if glyphs.is_empty() || !source.counts(m) {
-        return Ok(None);
+        return None;
     }
     let bits = new_inner_bits(kept, &source, glyphs, limit) as usize;
     let size = (outer_bits(&source) + bits).div_ceil(8);
-    if size > 4 {
-        return Err(Refusal::WideEntry);
-    }
     let count = count_of(&source, glyphs);
-    Ok(Some(MapPlan { count, bits, size }))
+    Some(MapPlan { count, bits, size })
 }
 
 pub fn map_length(plan: Option<MapPlan>) -> usize
-    ensures { (result ≡ length_of plan) × (result ≤ 262144) }
+    ensures { (result ≡ length_of plan) × (result ≤ 393214) }
 {
     match plan {
         Some(p) => 4 + p.count * p.size,
@@ -146,6 +139,7 @@ fn put_entries(
     p: MapPlan,
 )
     requires entries_fit { EntriesFit kept.now.count kept.now.work.now (pair_in source.now) glyphs.now p.bits }
+    requires narrow { p.size ≤ 4 }
     requires out_len { length out.old ≡ 4 + p.count * p.size }
     ensures { Wrote out.old 4 (entries_of (kept_in kept.now.count kept.now.work.now) (pair_in source.now) glyphs.now p) out.new }
 {
@@ -184,6 +178,7 @@ pub fn put_map(
     requires m_bound { m < sources.now.maps }
     requires ready { Ready kept.now.count kept.now.work.now sources.now.table.now glyphs.now m }
     requires planned { Planned sources.now.table.now (kept_in kept.now.count kept.now.work.now) glyphs.now m p }
+    requires narrow { p.size ≤ 4 }
     requires out_len { length out.old ≡ 4 + p.count * p.size }
     ensures { out.new ≡ map_bytes sources.now.table.now (kept_in kept.now.count kept.now.work.now) glyphs.now m }
 {

@@ -1,7 +1,7 @@
 -- The table as it is laid: header, maps, and the store between them.
 use Prim.Native.Nat.{ℕ, ◌+◌, ◌-◌, ◌*◌, ◌≤◌}
 use mathlib.Core.Path.{◌≡◌, refl, ap, ◌∙◌}
-use mathlib.Core.Bool.{true, false}
+use mathlib.Core.Bool.{Bool, true, false}
 use mathlib.Core.List.{List, [], ◌∷◌, ◌++◌}
 use native.Mathlib.Omega.{arith}
 use lib.ListN.{length, take, drop, length-append, length-drop}
@@ -43,8 +43,8 @@ table_length maps t store f h =
 
 -- ---- the bytes
 
-pub table_laid : {maps : ℕ} {t es : List ℕ} {plans : List (Option MapPlan)} {total : ℕ} (old store : List ℕ) (size : ℕ) {h s m : List ℕ}
-    → MapsPlanned maps t es plans total maps → size ≡ length store → 4 ≤ length t
+pub table_laid : {maps : ℕ} {t es : List ℕ} {plans : List (Option MapPlan)} {wide : Bool} {total : ℕ} (old store : List ℕ) (size : ℕ) {h s m : List ℕ}
+    → MapsPlanned maps t es plans wide total maps → size ≡ length store → 4 ≤ length t
     → h ≡ take 4 t ++ be_bytes 4 (header_length maps) ++ gather (λ k. offset_at plans (8 + 4 * maps + size) k) maps → s ≡ store → m ≡ gather (λ k. part_at maps t es k) maps
     → 8 + 4 * maps + size + total ≤ length old
     → put_mid (8 + 4 * maps) (8 + 4 * maps + size - (8 + 4 * maps)) (put_mid (8 + 4 * maps + size) (8 + 4 * maps + size + total - (8 + 4 * maps + size)) (h ++ drop (8 + 4 * maps) old) m) s

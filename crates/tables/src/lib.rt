@@ -62,7 +62,10 @@ fn cut_planned(
         work: &*work,
         count: n,
     };
-    let p = plan_maps(&kept, sources, glyphs)?;
+    let p = plan_maps(&kept, sources, glyphs);
+    if p.wide {
+        return Err(Refusal::WideEntry);
+    }
     let head = 8 + 4 * sources.maps;
     let middle = head + store_length(layout);
     let end = middle + p.length;

@@ -1,9 +1,9 @@
-use mathlib.Core.Path.{◌≡◌, refl, sym, ◌∙◌}
+use mathlib.Core.Path.{◌≡◌, sym, ◌∙◌}
 use mathlib.Core.Bool.{true}
 use native.Mathlib.Omega.{arith}
 use Rattle.rules.specs.Maps.{is_written}
 use Rattle.sources.proofs.Pairs.{map_good, counts_is}
-use Rattle.maps.proofs.Plans.{pairs_same, outers_same, none_listed, not_counted, counted, packs, kept_at, count_is, bits_is, size_is, too_wide}
+use Rattle.maps.proofs.Plans.{pairs_same, outers_same, none_listed, not_counted, counted, packs, kept_at, count_is, bits_is, size_is}
 use Rattle.maps.proofs.plan_map.Goals as goal
 use Rattle.maps.proofs.plan_map.Goals.{then-is_empty-via-then-is_empty, then-is_empty-via-else-is_empty+then-not-counts, Else-not-counts}
 
@@ -20,13 +20,6 @@ written c = counted _ _ _ (sym (counts_is _ _ _ c.source-source.ensures) ∙ (sy
 
 pub new_inner_bits-bits-requires-clause-kept : goal.new_inner_bits-bits-requires-clause-kept
 new_inner_bits-bits-requires-clause-kept c = kept_at c.requires.ready (written (goal.at.new_inner_bits-bits-requires-clause-kept c).Else-not-counts) _ (pairs_same _ _ _ c.source-source.ensures)
-
-pub returns-then-size-gt4 : goal.returns-then-size-gt4
-returns-then-size-gt4 c =
-    let on = written (goal.at.returns-then-size-gt4 c).Else-not-counts in
-    let same = pairs_same _ _ _ c.source-source.ensures in
-    let outers = outers_same _ _ _ c.source-source.ensures c.outer_bits.ensures.value in
-    (refl, too_wide c.requires.ready on (size_is c.requires.ready on _ same outers c.new_inner_bits-bits.ensures c.div_ceil-size.ensures) c.if-size-gt4.true)
 
 pub invariant_of-result : goal.invariant_of-result
 invariant_of-result c =

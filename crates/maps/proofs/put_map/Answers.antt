@@ -7,7 +7,7 @@ use Rattle.maps.proofs.put_map.Goals as goal
 
 pub put_entries-requires-clause-entries_fit : goal.put_entries-requires-clause-entries_fit
 put_entries-requires-clause-entries_fit c =
-    fits c.requires.ready c.requires.planned _ (pairs_same _ _ _ c.source.ensures) c.args.kept.now.numbered c.args.sources.now.octets (map_good _ _ _ c.args.sources.now.sound c.requires.m_bound)
+    fits c.requires.ready c.requires.planned _ (pairs_same _ _ _ c.source.ensures) c.requires.narrow c.args.kept.now.numbered c.args.sources.now.octets (map_good _ _ _ c.args.sources.now.sound c.requires.m_bound)
 
 pub returns : goal.returns
 returns c =
