@@ -1,7 +1,18 @@
-// Bytes copied from one part to another, in blocks.
+// What one part holds, copied to another: one element after the other, or bytes in blocks.
 #![tactic(auto)]
 
 ghost use Rattle.std.specs.Prelude.{◌+◌, ◌≤◌, ◌≡◌, true, length, take};
+
+// Copies a part into one of its length, one element after the other. The library's copy, where the length isn't known, is a call of the C
+// library's `memmove`: the archive for C would need that, and it is dear for a few bytes.
+pub fn copy<T: Copy>(out: &mut [T], s: &[T])
+    requires { length out.old ≡ length s.now }
+    ensures { out.new ≡ s.now }
+{
+    for (i, x) in s.iter().enumerate() {
+        out[i] = *x;
+    }
+}
 
 // By way of a block of its own: the compiler then moves all 32 bytes at once, as it need not ask whether the two parts overlap.
 fn copy_block(out: &mut [u8], s: &[u8])
@@ -28,7 +39,7 @@ pub fn copy_ahead(out: &mut [u8], s: &[u8], n: usize)
     ensures { take n out.new ≡ take n s.now }
 {
     if !has_blocks(out.len(), s.len(), n) {
-        out[..n].copy_from_slice(&s[..n]);
+        copy(&mut out[..n], &s[..n]);
         return;
     }
     let blocks = n.div_ceil(32);

@@ -17,6 +17,7 @@ ghost use Rattle.objects.specs.Offsets.{offsets_by};
 ghost use Rattle.objects.specs.Runs.{run_in, RunReady};
 
 use cells::put_number;
+use copies::copy;
 use pairs::Climbing;
 use plan::{Layout, list_length};
 use readers::store::{Regions, Store};
@@ -73,7 +74,7 @@ fn put_records(out: &mut [u8], work: &WorkArea, regions: &Regions<'_>)
         let length = used_length(work, r, size);
         let end = next + length;
         let stop = from + length;
-        out[next..end].copy_from_slice(&s[from..stop]);
+        copy(&mut out[next..end], &s[from..stop]);
         next = end;
         from += size;
     }

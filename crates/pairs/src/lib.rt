@@ -112,5 +112,5 @@ pub fn copy_pairs(work: &mut [u32], pairs: &[u32])
     requires { length pairs.now ≤ length work.old }
     ensures { work.new ≡ pairs.now ++ drop (length pairs.now) work.old }
 {
-    work[..pairs.len()].copy_from_slice(pairs);
+    copies::copy(&mut work[..pairs.len()], pairs);
 }

@@ -32,11 +32,11 @@ overflow_add-end c = omega (arith, turn c)
 pub overflow_add-stop : goal.overflow_add-stop
 overflow_add-stop c = omega (arith, turn c)
 
-pub slice_bounds-copy_from_slice-end : goal.slice_bounds-copy_from_slice-end
-slice_bounds-copy_from_slice-end c = omega (arith, turn c)
+pub slice_bounds-copy-end : goal.slice_bounds-copy-end
+slice_bounds-copy-end c = omega (arith, turn c)
 
-pub slice_bounds-copy_from_slice-end-in-loop-r : goal.slice_bounds-copy_from_slice-end-in-loop-r
-slice_bounds-copy_from_slice-end-in-loop-r c = omega (arith, turn (goal.at.slice_bounds-copy_from_slice-end-in-loop-r c).After-used_length-length)
+pub slice_bounds-copy-end-in-loop-r : goal.slice_bounds-copy-end-in-loop-r
+slice_bounds-copy-end-in-loop-r c = omega (arith, turn (goal.at.slice_bounds-copy-end-in-loop-r c).After-used_length-length)
 
 pub overflow_add-from-in-loop-r : goal.overflow_add-from-in-loop-r
 overflow_add-from-in-loop-r c = omega (arith, turn (goal.at.overflow_add-from-in-loop-r c).After-used_length-length)
@@ -45,7 +45,7 @@ pub loop-r-preserved : goal.loop-r-preserved
 loop-r-preserved c =
     let l = c.loop-r in
     let t = turn (goal.at.loop-r-preserved c).After-used_length-length in
-    let b = (rw (add-sub_cancel_left l.from c.used_length-length.result) at c.copy_from_slice.ensures.after) ∙ t.bytes in
+    let b = (rw (add-sub_cancel_left l.from c.used_length-length.result) at c.copy.ensures) ∙ t.bytes in
     record { place = omega (arith, l.invariant.place); laid = laid_more l.invariant.laid (omega (arith, t.size)) t.room b }
 
 pub returns : goal.returns
