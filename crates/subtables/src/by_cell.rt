@@ -46,14 +46,16 @@ impl<'a> Kept<'a> {
         requires out_len { length out.old ≡ count * size }
         ensures { out.new ≡ new_cells self.now item first count size }
     {
-        let wide = self.columns.counts.wide;
+        // A copy, as the compiler can't see that no write to the output changes the lent one.
+        let kept = *self;
+        let wide = kept.columns.counts.wide;
         for k in 0..count {
-            let column = column_at(self.work, wide, first + k);
+            let column = column_at(kept.work, wide, first + k);
             cells::put_entry(
                 out,
                 k * size,
                 size,
-                low_of(&self.subtable, item, column, size),
+                low_of(&kept.subtable, item, column, size),
             );
         }
     }
