@@ -32,9 +32,11 @@ fn play(file: &mut impl Read, r: Record) -> Result<bool, Broken> {
     let list = list.get_mut(..r.listed).ok_or(Broken)?;
     let work = work.get_mut(..r.area).ok_or(Broken)?;
     let out = out.get_mut(..r.room).ok_or(Broken)?;
+    // The last part's limit comes before the first is read: a list that is broken is not waited for.
+    let answer = answer.get_mut(..r.answered).ok_or(Broken)?;
     let bytes = read_part(file, &mut bytes, r.length)?;
     let raw = read_part(file, &mut raw, 4 * r.listed)?;
-    let answer = read_part(file, &mut answer, r.answered)?;
+    let answer = read_part(file, answer, r.answered)?;
     numbers(raw, list);
     Ok(call::same(r.asked, bytes, list, work, out, answer))
 }
