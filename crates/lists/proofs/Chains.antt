@@ -51,7 +51,7 @@ place-position x (y ∷ ys) = rw (place-position x ys) (by (eqb x y) (position_o
     by true k = refl
     by false k = omega arith
 
-place_le : (x : ℕ) (ys : List ℕ) → place x ys ≤ length ys
+pub place_le : (x : ℕ) (ys : List ℕ) → place x ys ≤ length ys
 unfolding place
 place_le x [] = omega arith
 place_le x (y ∷ ys) = by (eqb x y) (place x ys) (place_le x ys)

@@ -6,7 +6,7 @@
 //   12,288   by slot, modulo 4,096, the place of the first pair in it
 #![tactic(auto)]
 
-ghost use Rattle.std.specs.Prelude.{◌≡◌, false, ◌+◌, ◌*◌, ◌≤◌, ◌<◌, IfSome, take};
+ghost use Rattle.std.specs.Prelude.{◌≡◌, false, ◌+◌, ◌*◌, ◌≤◌, ◌<◌, IfSome, length, take};
 ghost use Rattle.lists.specs.Search.{place};
 ghost use Rattle.rules.specs.Lists.{outer, twice};
 ghost use Rattle.numbering.specs.Numbered.{Among, Numbered, Numbered-prop, Renumbered};
@@ -131,7 +131,8 @@ fn place_near(list: &[u32], h: usize, x: u32) -> Option<usize>
 
 // The place of a number; the length where it doesn't stand.
 fn place_among(list: &[u32], x: u32) -> usize
-    ensures { result ≡ place x list.now }
+    ensures value { result ≡ place x list.now }
+    ensures upper_bound { result ≤ length list.now }
 {
     list.iter().position(|y| x == *y).unwrap_or(list.len())
 }

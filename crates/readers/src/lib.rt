@@ -58,6 +58,6 @@ pub fn read_row<'a>(store: &'a [u8], outer: u32, inner: u32, number: &mut u32) -
 pub fn read_entry(map: &[u8], glyph: u32) -> Entry
     ensures { result ≡ entry_of map.now glyph }
 {
-    let map = Map::open(map, 0)?;
-    Ok(map.pair(glyph as usize))
+    let pair = Map::open(map, 0)?.pair(glyph as usize);
+    Ok(pair)
 }
