@@ -12,8 +12,9 @@ use lib.Dec.{ltb}
 use borrow.Author.Tests.{ltb-false}
 use Rattle.std.specs.Prelude.{Option}
 use Rattle.lists.specs.Pick.{pick}
+use Rattle.lists.specs.Search.{some}
 use Rattle.lists.proofs.Each.{some-not}
-use Rattle.lists.proofs.Tests.{some_none}
+use Rattle.lists.proofs.Tests.{some_none, some_at}
 use Rattle.lists.proofs.Tabs.{some_turn}
 use Rattle.lists.proofs.Pieces.{gather_none, gather_more, gather_length_more}
 use Rattle.lists.proofs.Laid.{Laid}
@@ -32,6 +33,10 @@ module _ {maps : ℕ} {t es : List ℕ} {n : ℕ} {w : List ℕ} (c : Collected 
 
   pub same-part : (m : ℕ) → map_bytes t (runs (take n w)) es m ≡ part_at maps t es m
   same-part m = rw c.pairs
+
+  -- 14 of one map is 14 of the table
+  pub wide_found : (m : ℕ) → m < maps → wide_entry t (runs (take n w)) es m ≡ true → some (λ k. wide_entry t (kept_runs maps t es) es k) maps ≡ true
+  wide_found m l h = some_at (λ k. wide_entry t (kept_runs maps t es) es k) m maps l (rw c.pairs at h)
 
 -- ---- the loop that plans them
 

@@ -1,7 +1,7 @@
 -- The offsets of the maps: what the loop has written so far, and that it is what the rules say.
-use Prim.Native.Nat.{ℕ, zero, suc, ◌+◌, ◌*◌, ◌≤◌}
+use Prim.Native.Nat.{ℕ, zero, suc, ◌+◌, ◌*◌, ◌≤◌, ◌<◌}
 use mathlib.Core.Path.{◌≡◌, refl, sym, ◌∙◌}
-use mathlib.Core.Bool.{Bool}
+use mathlib.Core.Bool.{Bool, false}
 use mathlib.Core.List.{List, [], ◌∷◌, ◌++◌, append_assoc, append-nil}
 use native.Mathlib.Omega.{arith}
 use native.Mathlib.Numerals.{add-one}
@@ -19,13 +19,21 @@ use Rattle.cells.proofs.Cells.{length-be_bytes, wrote_cat, wrote_all}
 use Rattle.rules.specs.TableCut.{map_offsets}
 use Rattle.std.specs.Prelude.{Option, Some, None}
 use Rattle.maps.specs.declared.plan.MapPlan.{MapPlan}
-use Rattle.maps.specs.Plans.{MapPlanned, length_of}
-use Rattle.maps.proofs.Bytes.{plan_none, plan_length_lem}
+use Rattle.maps.specs.Plans.{MapPlanned, size_of, length_of}
+use Rattle.maps.proofs.Bytes.{plan_none, plan_length_lem, length_narrow}
 use Rattle.frame.specs.Plans.{kept_runs, plan_at, lengths, place_of, offset_at, part_at, MapsPlanned}
-use Rattle.frame.proofs.MapPlans.{part_length}
+use Rattle.frame.proofs.MapPlans.{part_length, narrow}
 
 length-offsets : (plans : List (Option MapPlan)) (first k : ℕ) → length (gather (λ m. offset_at plans first m) k) ≡ k * 4
 length-offsets plans first k = gather-length (λ m. offset_at plans first m) 4 (λ m. length-be_bytes 4 _) k
+
+-- of maps with at most 4 bytes an entry, each has at most 4 + 65,535 × 4
+pub lengths_narrow : (plans : List (Option MapPlan)) (k : ℕ) → ((m : ℕ) → m < k → size_of (plan_at plans m) ≤ 4) → lengths plans k ≤ 262144 * k
+unfolding lengths
+lengths_narrow plans zero few = omega arith
+lengths_narrow plans (suc k) few =
+    let before = lengths_narrow plans k (λ m l. few m (omega arith)) in
+    omega (arith, before, length_narrow (plan_at plans k) (few k (omega arith)))
 
 -- ---- the loop
 
@@ -87,3 +95,7 @@ module _ {maps : ℕ} {t es : List ℕ} {plans : List (Option MapPlan)} {wide : 
   offsets_up_to first (suc k) l =
       rw (offsets_up_to first k (omega arith), ← plan_offset maps t es k (plan_at plans k) (h.each k l), lengths_are k (omega arith), gather-tab (λ part. part) (λ m. part_at maps t es m))
       (sym (offsets_behind first (tab (λ m. part_at maps t es m) k) (part_at maps t es k)))
+
+-- where 14 is not given, each of a table's maps has at most 4 + 65,535 × 4 bytes
+pub total_narrow : {maps : ℕ} {t es : List ℕ} {plans : List (Option MapPlan)} {total k : ℕ} → MapsPlanned maps t es plans false total k → total ≤ 262144 * k
+total_narrow {plans = plans} {k = k} h = omega (arith, h.bytes, lengths_are h k (omega arith), lengths_narrow plans k (narrow h))

@@ -5,11 +5,12 @@ use mathlib.Core.Bool.{false}
 use mathlib.Core.List.{List, [], ◌++◌, map}
 use native.Mathlib.Omega.{arith}
 use native.Mathlib.Numerals.{add-one}
-use native.Mathlib.Nat.{lt_of_lt_of_le, suc-mul}
+use native.Mathlib.Nat.{lt_of_lt_of_le, suc-mul, mul-le-mul}
 use lib.Pow.{pow_mono}
 use lib.ListN.{length, get_or}
 use lib.Seq.{length-sets}
 use lib.Dec.{ltb}
+use borrow.Author.Tests.{le-ltb}
 use Rattle.std.specs.Prelude.{Option, Some, None}
 use Rattle.lists.specs.Gather.{gather}
 use Rattle.lists.proofs.Pieces.{gather_none, gather_more, gather-length}
@@ -85,6 +86,15 @@ module _ (t : List ℕ) (rs : List Run) (es : List ℕ) (m : ℕ) where
   unfolding wide_entry
   plan_wide None off = rw off
   plan_wide (Some p) d = rw (d.written, d.size)
+
+  -- 14 is not given, of entries of at most 4 bytes
+  pub plan_narrow : (plan : Option MapPlan) → size_of plan ≤ 4 → MapPlanned t rs es m plan → wide_entry t rs es m ≡ false
+  plan_narrow plan few d = sym (plan_wide plan d) ∙ le-ltb _ _ few
+
+-- a map with at most 4 bytes an entry has at most 4 + 65,535 × 4
+pub length_narrow : (plan : Option MapPlan) → size_of plan ≤ 4 → length_of plan ≤ 262144
+length_narrow None few = omega arith
+length_narrow (Some p) few = omega (arith, mul-le-mul p.entries few)
 
 -- ---- a written map
 

@@ -7,7 +7,7 @@ use native.Mathlib.Omega.{arith}
 use native.Mathlib.Nat.{le_of_suc-le-suc}
 use lib.ListN.{length, get_or, take, length-take}
 use lib.Dec.{eqb}
-use borrow.Author.Tests.{not-true, eqb-false}
+use borrow.Author.Tests.{not-true, lt-ltb, eqb-false}
 use Rattle.std.proofs.Math.Path.{fun_ext}
 use Rattle.std.specs.Prelude.{Option, Some, None, MatchOption}
 use Rattle.lists.specs.Pick.{pick, both, differ, differ_yes, differ_no}
@@ -20,7 +20,7 @@ use Rattle.opentype.specs.Table.{map_at}
 use Rattle.rules.specs.Lists.{old_id, bad_glyphs}
 use Rattle.rules.specs.Open.{bad_map}
 use Rattle.rules.specs.Numbering.{present, counts, pair_of, kept_pairs, new_inner}
-use Rattle.rules.specs.Maps.{is_written, map_plan, count_of, bits_for, largest_inner, new_outer_bits, entry_size}
+use Rattle.rules.specs.Maps.{is_written, map_plan, count_of, bits_for, largest_inner, new_outer_bits, entry_size, wide_entry}
 use Rattle.rules.specs.Maps.{MapPlan as PlanOf}
 use Rattle.rules.specs.declared.Pair.{Pair}
 use Rattle.laws.specs.Glyphs.{good_glyphs}
@@ -125,3 +125,7 @@ module _ {n : ℕ} {w t es : List ℕ} {m : ℕ} (r : Ready n w t es m) (on : is
         → size ≡ (outers + bits) / 8 + min 1 ((outers + bits) % 8) → size ≡ entry_size plan
     unfolding map_plan largest_inner entry_size
     size_is {outers} {bits} o b s = rw (← o, ← (rw e at b)) (omega arith)
+
+  pub too_wide : {size : ℕ} → size ≡ entry_size plan → 4 < size → wide_entry t (kept_in n w) es m ≡ true
+  unfolding wide_entry
+  too_wide s h = rw (on, ← s, lt-ltb 4 _ h)
